@@ -1,0 +1,5 @@
+pub mod Rows
+pub mod Puts
+pub mod StoreCall
+pub mod Store
+pub mod Shelf

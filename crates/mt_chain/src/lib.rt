@@ -1,0 +1,12 @@
+//! The contract of a store: rows by key, conditional changes of one partition at a time, ranges, and a seal.
+#![tactic(auto)]
+
+mod depot;
+mod keeper;
+mod query;
+mod row;
+
+pub use depot::{Depot, DepotFault};
+pub use keeper::{KeepFault, Keeper};
+pub use query::{Found, Next, PkFrom, Range, RangeQuery, RkFrom};
+pub use row::{Put, Puts, Stored, StoredRow, StoredRows, Tags};

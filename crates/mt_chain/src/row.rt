@@ -1,0 +1,135 @@
+ghost use Rattle.std.specs.Prelude.{◌≡◌, map};
+ghost use Rattle.std.specs.List.Sorted.{IsStrictlySortedBy};
+ghost use Rattle.std.specs.Ordering.{nat_cmp};
+ghost use Rattle.std.specs.Cmp.Lexicographic.{slice_cmp};
+
+use mt_model::{Props, Tag, Text};
+use std::marker::Model;
+
+/// What a store keeps at a key: the properties, hidden ones among them, and the tag that it gave.
+#[derive(Drop)]
+pub struct Stored {
+    pub props: Props,
+    pub tag: Tag,
+}
+
+/// A row of one partition, as a store answers it.
+#[derive(Drop)]
+pub struct StoredRow {
+    pub rk: Text,
+    pub props: Props,
+    pub tag: Tag,
+}
+
+/// One conditional change of a row of a partition.
+#[derive(Drop)]
+pub enum Put {
+    /// The row is there with that tag, and stays.
+    Check { rk: Text, tag: Tag },
+    /// No row is there, and this one comes.
+    Insert { rk: Text, props: Props },
+    /// The row is there with that tag, and gets these properties.
+    Replace { rk: Text, props: Props, tag: Tag },
+    /// The row is there with that tag, and goes.
+    Delete { rk: Text, tag: Tag },
+}
+
+/// Changes of one partition, made all at once or not at all.
+#[derive(Drop)]
+pub struct Puts {
+    items: Vec<Put>,
+}
+
+impl Model for Puts {
+    ghost use Rattle.std.specs.Prelude.{List};
+    ghost use Rattle.mt_chain.specs.declared.row.Put.{Put};
+
+    ghost Value = { List Put };
+
+    ghost view = { λ p. p.items.items };
+}
+
+impl Puts {
+    /// These changes in this order.
+    pub fn of(items: Vec<Put>) -> Puts
+        ensures { result ≡ items.items }
+    {
+        Puts { items }
+    }
+
+    /// The changes in order.
+    pub fn as_slice(&self) -> &[Put]
+        ensures { result.now ≡ self.now }
+    {
+        self.items.as_slice()
+    }
+}
+
+/// Tags in order.
+#[derive(Drop)]
+pub struct Tags {
+    items: Vec<Tag>,
+}
+
+impl Model for Tags {
+    ghost use Rattle.std.specs.Prelude.{List};
+    ghost use Rattle.mt_model.specs.declared.tag.Tag.{Tag};
+
+    ghost Value = { List Tag };
+
+    ghost view = { λ t. t.items.items };
+}
+
+impl Tags {
+    /// These tags in this order.
+    pub fn of(items: Vec<Tag>) -> Tags
+        ensures { result ≡ items.items }
+    {
+        Tags { items }
+    }
+
+    /// The tags in order.
+    pub fn as_slice(&self) -> &[Tag]
+        ensures { result.now ≡ self.now }
+    {
+        self.items.as_slice()
+    }
+}
+
+/// Rows of one partition with rising row keys.
+#[derive(Drop)]
+pub struct StoredRows {
+    items: Vec<StoredRow>,
+}
+
+impl Model for StoredRows {
+    ghost use Rattle.std.specs.Prelude.{List, map};
+    ghost use Rattle.std.specs.List.Sorted.{IsStrictlySortedBy};
+    ghost use Rattle.std.specs.Ordering.{nat_cmp};
+    ghost use Rattle.std.specs.Cmp.Lexicographic.{slice_cmp};
+    ghost use Rattle.mt_chain.specs.declared.row.StoredRow.{StoredRow};
+
+    ghost Value = { List StoredRow };
+
+    ghost view = { λ r. r.items.items };
+
+    ghost invariant = { λ r. IsStrictlySortedBy (slice_cmp nat_cmp) (map (λ s. s.rk) r.items.items) };
+}
+
+impl StoredRows {
+    /// These rows, whose row keys rise.
+    pub fn of(items: Vec<StoredRow>) -> StoredRows
+        requires { IsStrictlySortedBy (slice_cmp nat_cmp) (map (λ s. s.rk) items.items) }
+        ensures { result ≡ items.items }
+    {
+        StoredRows { items }
+    }
+
+    /// The rows in order.
+    pub fn as_slice(&self) -> &[StoredRow]
+        ensures value { result.now ≡ self.now }
+        ensures rising { IsStrictlySortedBy (slice_cmp nat_cmp) (map (λ s. s.rk) self.now) }
+    {
+        self.items.as_slice()
+    }
+}
