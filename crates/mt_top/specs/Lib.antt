@@ -1,0 +1,4 @@
+pub mod Heads
+pub mod Bodies
+pub mod Inserts
+pub mod Reading
