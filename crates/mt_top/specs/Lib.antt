@@ -1,4 +1,4 @@
 pub mod Heads
 pub mod Bodies
 pub mod Inserts
-pub mod Reading
+pub mod Storing

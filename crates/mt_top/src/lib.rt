@@ -2,4 +2,4 @@
 #![tactic(auto)]
 
 mod entity;
-mod reader;
+mod storing;
