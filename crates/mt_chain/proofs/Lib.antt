@@ -1,0 +1,4 @@
+pub mod KeyLaws
+pub mod RowLaws
+pub mod PutLaws
+pub mod JudgeLaws
