@@ -1,7 +1,10 @@
-ghost use Rattle.std.specs.Prelude.{◌≡◌, ◌≢◌, ◌∷◌, [], ℕ, List, Some, IfOk};
-ghost use Rattle.mt_top.specs.Storing.{marker, use_old, names_for, Inserts};
+ghost use Rattle.std.specs.Prelude.{length, ◌≡◌, ◌≢◌, ◌∷◌, ◌++◌, [], ℕ, List, None, Some, IfOk, find, bytes_eq, option_copied, codes};
+ghost use Rattle.mt_model.specs.Key.{key_fault};
+ghost use Rattle.mt_model.specs.declared.value.Prop.{Prop};
+ghost use Rattle.mt_chain.specs.declared.row.Put.{Put};
+ghost use Rattle.mt_top.specs.Storing.{marker, use_old, is_use_old, names_for, is_text, row_named, seen_of, seen_found, seen_marked, seen_row, seen_free, birth, puts_of, IsFirst, IsQueryFor, inserted_by, Inserts, Attempts, Writes, Steps, step_of};
 
-use mt_chain::{Found, KeepFault, Keeper, Put, Puts, RangeQuery, StoredRow};
+use mt_chain::{Found, KeepFault, Keeper, Put, Puts, RangeQuery, StoredRow, Tags};
 use mt_model::{Hidden, Key, NoMemory, Prop, Props, Tag, Text, Texts, Value};
 use std::alloc::Global;
 
@@ -64,4 +67,167 @@ fn names(alloc: Global, rk: &Text) -> Result<Texts, NoMemory>
         return Err(NoMemory);
     }
     Ok(Texts::of(names))
+}
+
+fn find_row<'a>(rows: &'a [StoredRow], rk: &str) -> Option<&'a StoredRow>
+    ensures { option_copied result ≡ row_named rk.now rows.now }
+{
+    rows.iter().find(|row| row.rk.as_str() == rk)
+}
+
+/// Whether the properties are those of the marker of a partition that is in the old store alone.
+fn is_at_old(props: &[Prop]) -> bool
+    ensures { result ≡ is_use_old props.now }
+{
+    match props {
+        [prop] => prop.name.as_str() == "$kind" && is_use_old_text(&prop.value),
+        _ => false,
+    }
+}
+
+fn is_use_old_text(value: &Value) -> bool
+    ensures { result ≡ is_text (codes "use-old") value.now }
+{
+    match value {
+        Value::Str(text) => text.as_str() == "use-old",
+        _ => false,
+    }
+}
+
+fn see_row(tag: Tag, row: Option<&StoredRow>) -> Seen
+    ensures { result ≡ seen_row tag (option_copied row.entry) }
+{
+    match row {
+        None => Seen::Marked(tag),
+        Some(_) => Seen::Taken,
+    }
+}
+
+fn see_free(row: Option<&StoredRow>, sealed: bool) -> Seen
+    ensures { result ≡ seen_free (option_copied row.entry) sealed }
+{
+    match row {
+        Some(_) => Seen::Odd,
+        None => if sealed { Seen::Odd } else { Seen::Nothing },
+    }
+}
+
+fn see(mark: Option<&StoredRow>, row: Option<&StoredRow>, sealed: bool) -> Seen
+    ensures { result ≡ seen_of (option_copied mark.entry) (option_copied row.entry) sealed }
+{
+    match mark {
+        None => see_free(row, sealed),
+        Some(mark) => {
+            if is_at_old(mark.props.as_slice()) {
+                see_row(mark.tag, row)
+            } else {
+                Seen::Odd
+            }
+        }
+    }
+}
+
+/// What a read of the marker and of a row shows.
+fn look(found: &Found, rk: &Text) -> Seen
+    ensures { result ≡ seen_found rk.now found.now }
+{
+    let rows = found.named.as_slice();
+    see(find_row(rows, MARKER), find_row(rows, rk.as_str()), found.sealed)
+}
+
+fn check_put(alloc: Global, tag: Tag) -> Result<Put, NoMemory>
+    ensures { IfOk result (λ put. put ≡ Put.Check marker tag) }
+{
+    let rk = Text::of(alloc, MARKER)?;
+    Ok(Put::Check { rk, tag })
+}
+
+/// The two puts of an insert.
+fn both_puts(alloc: Global, first: Put, rk: Text, props: Props) -> Result<Puts, NoMemory>
+    ensures { IfOk result (λ puts. puts ≡ puts_of first rk props) }
+{
+    let mut puts = Vec::new(alloc);
+    if puts.push(first).is_err() || puts.push(Put::Insert { rk, props }).is_err() {
+        return Err(NoMemory);
+    }
+    Ok(Puts::of(puts))
+}
+
+/// The second of two tags.
+fn second(tags: &Tags) -> Tag
+    requires { length tags.now ≡ 2 }
+    ensures { (first : Tag) × (tags.now ≡ first ∷ result ∷ []) }
+{
+    match tags.as_slice() {
+        [_, tag] => *tag,
+        _ => unreachable!(),
+    }
+}
+
+fn props_of(put: Put) -> Option<Props>
+    ensures { result ≡ inserted_by put }
+{
+    match put {
+        Put::Insert { rk: _, props } => Some(props),
+        Put::Check { .. } | Put::Replace { .. } | Put::Delete { .. } => None,
+    }
+}
+
+/// The properties of the row that the last of these puts inserts.
+fn last_inserted(puts: Puts) -> Option<Props>
+    ensures { (first last : Put) → puts ≡ first ∷ last ∷ [] → result ≡ inserted_by last }
+{
+    let mut items = puts.into_items();
+    match items.pop() {
+        Some(put) => props_of(put),
+        None => None,
+    }
+}
+
+/// Hands back the properties that `puts` insert.
+fn written(puts: Puts, tag: Tag) -> Attempt
+    requires { (first : Put) × (rk : List ℕ) × (props : List Prop) × (puts ≡ puts_of first rk props) }
+    ensures { (first : Put) (rk : List ℕ) (props : List Prop) → puts ≡ puts_of first rk props → result ≡ Attempt.Written props tag }
+{
+    match last_inserted(puts) {
+        Some(props) => Attempt::Written { props, tag },
+        None => unreachable!(),
+    }
+}
+
+fn again(puts: Puts) -> Attempt
+    requires { (first : Put) × (rk : List ℕ) × (props : List Prop) × (puts ≡ puts_of first rk props) }
+    ensures { (first : Put) (rk : List ℕ) (props : List Prop) → puts ≡ puts_of first rk props → result ≡ Attempt.Again props }
+{
+    match last_inserted(puts) {
+        Some(props) => Attempt::Again { props },
+        None => unreachable!(),
+    }
+}
+
+/// One conditional write: the marker's put and the row's.
+fn try_write<K: Keeper>(
+    alloc: Global,
+    old: &mut K,
+    key: &Key,
+    first: Put,
+    props: Props,
+) -> Attempt
+    requires first { IsFirst first }
+    requires row { key.now.rk ≢ marker }
+    ensures { Attempts (K.state old.old) key.now first props result (K.state old.new) }
+{
+    let Ok(rk) = key.rk.copy(alloc) else {
+        return Attempt::Fault(StoreFault::NoMemory);
+    };
+    let Ok(puts) = both_puts(alloc, first, rk, props) else {
+        return Attempt::Fault(StoreFault::NoMemory);
+    };
+    match old.apply(alloc, &key.pk, &puts) {
+        Ok(tags) => written(puts, second(&tags)),
+        Err(KeepFault::Unmet { .. }) => again(puts),
+        Err(KeepFault::Sealed) => again(puts),
+        Err(KeepFault::Failed) => Attempt::Fault(StoreFault::Failed),
+        Err(KeepFault::NoMemory) => Attempt::Fault(StoreFault::NoMemory),
+    }
 }
