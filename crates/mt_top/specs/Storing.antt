@@ -22,7 +22,8 @@ use Rattle.mt_top.specs.declared.storing.Seen.TheVariants.{Nothing, Marked, Take
 use Rattle.mt_top.specs.declared.storing.Inserted.{Inserted}
 use Rattle.mt_top.specs.declared.storing.Inserted.TheVariants.{Created, Exists}
 use Rattle.mt_top.specs.declared.storing.StoreFault.{StoreFault}
-use Rattle.mt_top.specs.declared.storing.StoreFault.TheVariants.{Failed, NoMemory}
+use Rattle.mt_top.specs.declared.storing.StoreFault.TheVariants as fault
+use Rattle.mt_model.specs.declared.text.NoMemory.{NoMemory}
 use Rattle.mt_top.specs.declared.storing.Attempt.{Attempt}
 use Rattle.mt_top.specs.declared.storing.Attempt.TheVariants as attempt
 use Rattle.mt_top.specs.declared.storing.Step.{Step}
@@ -111,8 +112,8 @@ pub record WasThere (key : Key) (a b : Contents) : Type 0 where
 abbrev pub InsertShows : Store → Key → List Prop → Result Inserted StoreFault → Store → Type 0
 InsertShows s key props (Ok (Created kept tag)) t = (kept ≡ props) × Onward (λ a b. Born s.number key props tag a b ⊎ Added s.number key props tag a b) s.told t.told
 InsertShows s key props (Ok Exists) t = Onward (WasThere key) s.told t.told
-InsertShows s key props (Err Failed) t = Rose s.faults t.faults × Onward Same s.told t.told
-InsertShows s key props (Err NoMemory) t = Onward Same s.told t.told
+InsertShows s key props (Err fault.Failed) t = Rose s.faults t.faults × Onward Same s.told t.told
+InsertShows s key props (Err fault.NoMemory) t = Onward Same s.told t.told
 
 pub record Inserts (s : Store) (key : Key) (props : List Prop) (r : Result Inserted StoreFault) (t : Store) : Type 0 where
   pub number : t.number ≡ s.number
@@ -136,8 +137,8 @@ abbrev pub AttemptShows : Store → Key → Put → List Prop → Attempt → St
 AttemptShows s key first props (attempt.Written kept tag) t = (kept ≡ props)
     × Onward (λ a b. (first_tag : Tag) × (judge s.number a key.pk (puts_of first key.rk props) ≡ Done b (first_tag ∷ tag ∷ []))) s.told t.told
 AttemptShows s key first props (attempt.Again kept) t = (kept ≡ props) × Onward Same s.told t.told
-AttemptShows s key first props (attempt.Fault Failed) t = Rose s.faults t.faults × Onward Same s.told t.told
-AttemptShows s key first props (attempt.Fault NoMemory) t = Onward Same s.told t.told
+AttemptShows s key first props (attempt.Fault fault.Failed) t = Rose s.faults t.faults × Onward Same s.told t.told
+AttemptShows s key first props (attempt.Fault fault.NoMemory) t = Onward Same s.told t.told
 
 pub record Attempts (s : Store) (key : Key) (first : Put) (props : List Prop) (r : Attempt) (t : Store) : Type 0 where
   pub number : t.number ≡ s.number
@@ -148,15 +149,20 @@ pub record Attempts (s : Store) (key : Key) (first : Put) (props : List Prop) (r
 abbrev pub step_of : Attempt → Step
 step_of (attempt.Written kept tag) = step.Done (Ok (Created kept tag))
 step_of (attempt.Again kept) = step.Again kept
-step_of (attempt.Fault fault) = step.Done (Err fault)
+step_of (attempt.Fault cause) = step.Done (Err cause)
 
 abbrev pub Attempted : Store → Key → Put → List Prop → Step → Store → Type 0
 Attempted s key first props r t = (a : Attempt) × (r ≡ step_of a) × Attempts s key first props a t
 
+-- the write with a put of the marker, or no memory for that put
+abbrev pub WritesWith : Store → Key → Result Put NoMemory → List Prop → Step → Store → Type 0
+WritesWith s key (Ok first) props r t = Attempted s key first props r t
+WritesWith s key (Err e) props r t = (r ≡ step.Done (Err fault.NoMemory)) × (t ≡ s)
+
 -- what follows on what was seen
 abbrev pub Writes : Store → Key → Seen → List Prop → Step → Store → Type 0
-Writes s key Nothing props r t = Attempted s key birth props r t
-Writes s key (Marked tag) props r t = Attempted s key (Check marker tag) props r t
+Writes s key Nothing props r t = Attempted s key birth props r t ⊎ ((r ≡ step.Done (Err fault.NoMemory)) × (t ≡ s))
+Writes s key (Marked tag) props r t = Attempted s key (Check marker tag) props r t ⊎ ((r ≡ step.Done (Err fault.NoMemory)) × (t ≡ s))
 Writes s key Taken props r t = (r ≡ step.Done (Ok Exists)) × (t ≡ s)
 Writes s key Odd props r t = (r ≡ step.Again props) × (t ≡ s)
 

@@ -2,7 +2,7 @@ ghost use Rattle.std.specs.Prelude.{length, ◌≡◌, ◌≢◌, ◌∷◌, ◌
 ghost use Rattle.mt_model.specs.Key.{key_fault};
 ghost use Rattle.mt_model.specs.declared.value.Prop.{Prop};
 ghost use Rattle.mt_chain.specs.declared.row.Put.{Put};
-ghost use Rattle.mt_top.specs.Storing.{marker, use_old, is_use_old, names_for, is_text, row_named, seen_of, seen_found, seen_marked, seen_row, seen_free, birth, puts_of, IsFirst, IsQueryFor, inserted_by, Inserts, Attempts, Writes, Steps, step_of};
+ghost use Rattle.mt_top.specs.Storing.{marker, use_old, is_use_old, names_for, is_text, row_named, seen_of, seen_found, seen_marked, seen_row, seen_free, birth, puts_of, IsFirst, IsQueryFor, inserted_by, Inserts, Attempts, Writes, WritesWith, Steps, step_of};
 
 use mt_chain::{Found, KeepFault, Keeper, Put, Puts, RangeQuery, StoredRow, Tags};
 use mt_model::{Hidden, Key, NoMemory, Prop, Props, Tag, Text, Texts, Value};
@@ -62,7 +62,11 @@ fn names(alloc: Global, rk: &Text) -> Result<Texts, NoMemory>
     let mut names = Vec::new(alloc);
     let marker = Text::of(alloc, MARKER)?;
     let row = rk.copy(alloc)?;
-    let (first, second) = if rk.as_str() < MARKER { (row, marker) } else { (marker, row) };
+    let (first, second) = if rk.as_str() < MARKER {
+        (row, marker)
+    } else {
+        (marker, row)
+    };
     if names.push(first).is_err() || names.push(second).is_err() {
         return Err(NoMemory);
     }
@@ -132,7 +136,30 @@ fn look(found: &Found, rk: &Text) -> Seen
     ensures { result ≡ seen_found rk.now found.now }
 {
     let rows = found.named.as_slice();
-    see(find_row(rows, MARKER), find_row(rows, rk.as_str()), found.sealed)
+    see(
+        find_row(rows, MARKER),
+        find_row(rows, rk.as_str()),
+        found.sealed,
+    )
+}
+
+/// The properties of the marker of a partition that is in the old store alone.
+fn marker_props(alloc: Global) -> Result<Props, NoMemory>
+    ensures { IfOk result (λ props. props ≡ use_old) }
+{
+    let Ok(mut props) = Props::build(alloc, Vec::new(alloc)) else {
+        return Err(NoMemory);
+    };
+    props.add_hidden(alloc, Hidden::Kind, "use-old")?;
+    Ok(props)
+}
+
+fn birth_put(alloc: Global) -> Result<Put, NoMemory>
+    ensures { IfOk result (λ put. put ≡ birth) }
+{
+    let rk = Text::of(alloc, MARKER)?;
+    let props = marker_props(alloc)?;
+    Ok(Put::Insert { rk, props })
 }
 
 fn check_put(alloc: Global, tag: Tag) -> Result<Put, NoMemory>
@@ -206,13 +233,7 @@ fn again(puts: Puts) -> Attempt
 }
 
 /// One conditional write: the marker's put and the row's.
-fn try_write<K: Keeper>(
-    alloc: Global,
-    old: &mut K,
-    key: &Key,
-    first: Put,
-    props: Props,
-) -> Attempt
+fn try_write<K: Keeper>(alloc: Global, old: &mut K, key: &Key, first: Put, props: Props) -> Attempt
     requires first { IsFirst first }
     requires row { key.now.rk ≢ marker }
     ensures { Attempts (K.state old.old) key.now first props result (K.state old.new) }
@@ -229,5 +250,103 @@ fn try_write<K: Keeper>(
         Err(KeepFault::Sealed) => again(puts),
         Err(KeepFault::Failed) => Attempt::Fault(StoreFault::Failed),
         Err(KeepFault::NoMemory) => Attempt::Fault(StoreFault::NoMemory),
+    }
+}
+
+fn step_from(attempt: Attempt) -> Step
+    ensures { result ≡ step_of attempt }
+{
+    match attempt {
+        Attempt::Written { props, tag } => Step::Done(Ok(Inserted::Created { props, tag })),
+        Attempt::Again { props } => Step::Again { props },
+        Attempt::Fault(fault) => Step::Done(Err(fault)),
+    }
+}
+
+/// Writes with this put of the marker, where there was memory for it.
+fn write_with<K: Keeper>(
+    alloc: Global,
+    old: &mut K,
+    key: &Key,
+    first: Result<Put, NoMemory>,
+    props: Props,
+) -> Step
+    requires first { IfOk first IsFirst }
+    requires row { key.now.rk ≢ marker }
+    ensures { WritesWith (K.state old.old) key.now first props result (K.state old.new) }
+{
+    match first {
+        Ok(first) => step_from(try_write(alloc, old, key, first, props)),
+        Err(NoMemory) => Step::Done(Err(StoreFault::NoMemory)),
+    }
+}
+
+/// What follows on what was seen.
+fn write_on<K: Keeper>(alloc: Global, old: &mut K, key: &Key, seen: Seen, props: Props) -> Step
+    requires row { key.now.rk ≢ marker }
+    ensures { Writes (K.state old.old) key.now seen props result (K.state old.new) }
+{
+    match seen {
+        Seen::Nothing => write_with(alloc, old, key, birth_put(alloc), props),
+        Seen::Marked(tag) => write_with(alloc, old, key, check_put(alloc, tag), props),
+        Seen::Taken => Step::Done(Ok(Inserted::Exists)),
+        Seen::Odd => Step::Again { props },
+    }
+}
+
+/// One read with its write.
+fn read_and_write<K: Keeper>(
+    alloc: Global,
+    old: &mut K,
+    query: &RangeQuery,
+    key: &Key,
+    props: Props,
+) -> Step
+    requires query { IsQueryFor key.now query.now }
+    requires row { key.now.rk ≢ marker }
+    ensures { Steps (K.state old.old) key.now props result (K.state old.new) }
+{
+    match old.query(alloc, query) {
+        Ok(found) => write_on(alloc, old, key, look(&found, &key.rk), props),
+        Err(KeepFault::NoMemory) => Step::Done(Err(StoreFault::NoMemory)),
+        Err(_) => Step::Done(Err(StoreFault::Failed)),
+    }
+}
+
+fn query_for(alloc: Global, key: &Key) -> Result<RangeQuery, NoMemory>
+    ensures { IfOk result (IsQueryFor key.now) }
+{
+    let pk = key.pk.copy(alloc)?;
+    let named = names(alloc, &key.rk)?;
+    Ok(RangeQuery {
+        pk,
+        named,
+        range: None,
+    })
+}
+
+/// Inserts a row where none is, in the old store alone: one read of the marker and the row, then one
+/// conditional write, and again from the read where the write did not find what was read.
+///
+/// Hands the properties back with the tag of the row. Where the row is there, or on a fault, nothing
+/// changed.
+pub fn insert<K: Keeper>(
+    alloc: Global,
+    old: &mut K,
+    key: &Key,
+    props: Props,
+) -> Result<Inserted, StoreFault>
+    requires { key_fault key.now.pk key.now.rk ≡ None }
+    ensures { Inserts (K.state old.old) key.now props result (K.state old.new) }
+{
+    let Ok(query) = query_for(alloc, key) else {
+        return Err(StoreFault::NoMemory);
+    };
+    let mut props = props;
+    'tries: loop {
+        match read_and_write(alloc, old, &query, key, props) {
+            Step::Done(result) => return result,
+            Step::Again { props: back } => props = back,
+        }
     }
 }
