@@ -2,4 +2,5 @@
 #![tactic(auto)]
 
 mod entity;
+mod reply;
 mod storing;

@@ -1,0 +1,60 @@
+-- The bytes of the replies to inserts.
+use Rattle.std.specs.Prelude.{◌≡◌, ℕ, ◌+◌, ◌≤◌, List, [], ◌∷◌, ◌++◌, map, length, sum_by, codes, decimal}
+use Rattle.std.specs.Ordering.{nat_cmp}
+use Rattle.std.specs.Cmp.Lexicographic.{slice_cmp}
+use Rattle.std.specs.FinMap.Entries.{put}
+use Rattle.mt_model.specs.declared.key.Key.{Key}
+use Rattle.mt_model.specs.declared.tag.Tag.{Tag}
+use Rattle.mt_model.specs.declared.value.Prop.{Prop}
+use Rattle.mt_model.specs.declared.value.Value.{Value}
+use Rattle.mt_model.specs.declared.value.Value.TheVariants.{Str}
+use Rattle.mt_model.specs.Tag.{tag_text}
+use Rattle.mt_top.specs.Bodies.{Member, print_object}
+use Rattle.mt_top.specs.Inserts.{pk_name, rk_name}
+
+-- the text of a value, which is a text here
+abbrev pub text_of : Value → List ℕ
+text_of (Str text) = text
+text_of value = []
+
+abbrev pub member_of : Prop → Member
+member_of p = (p.name, text_of p.value)
+
+abbrev pub etag_name : List ℕ
+etag_name = codes "odata.etag"
+
+-- the text of a tag inside a JSON string, W/\"s.n\"
+abbrev pub escaped_tag : Tag → List ℕ
+escaped_tag tag = codes "W/\\\"" ++ decimal tag.store ++ codes "." ++ decimal tag.n ++ codes "\\\""
+
+-- the list with a member in its place, in byte order of names
+abbrev pub with_member : List ℕ → List ℕ → List Member → List Member
+with_member name text ms = put (slice_cmp nat_cmp) name text ms
+
+-- the properties of an entity, its tag and its two keys, in byte order of names
+abbrev pub entity_members : Key → List Prop → Tag → List Member
+entity_members key props tag = with_member pk_name key.pk (with_member rk_name key.rk (with_member etag_name (escaped_tag tag) (map member_of props)))
+
+abbrev pub entity_text : Key → List Prop → Tag → List ℕ
+entity_text key props tag = print_object (entity_members key props tag)
+
+-- the reply to an insert that wrote its row with this tag
+abbrev pub created_reply : Key → List Prop → Tag → List ℕ
+created_reply key props tag = codes "HTTP/1.1 201 Created\r\nContent-Type: application/json\r\nETag: " ++ tag_text tag
+    ++ codes "\r\nContent-Length: " ++ decimal (length (entity_text key props tag)) ++ codes "\r\n\r\n" ++ entity_text key props tag
+
+-- the reply to an insert whose row is there
+abbrev pub exists_reply : List ℕ
+exists_reply = codes "HTTP/1.1 409 Conflict\r\nContent-Type: application/json\r\nContent-Length: 120\r\n\r\n{\"odata.error\":{\"code\":\"EntityAlreadyExists\",\"message\":{\"lang\":\"en-US\",\"value\":\"The specified entity already exists.\"}}}"
+
+-- the reply to what is no plain insert, after which the connection ends
+abbrev pub unsupported_reply : List ℕ
+unsupported_reply = codes "HTTP/1.1 501 Not Implemented\r\nContent-Type: application/json\r\nContent-Length: 108\r\nConnection: close\r\n\r\n{\"odata.error\":{\"code\":\"NotImplemented\",\"message\":{\"lang\":\"en-US\",\"value\":\"The request is not supported.\"}}}"
+
+-- the bytes of a member with its comma
+abbrev pub member_size : Member → ℕ
+member_size m = length m.0 + length m.1 + 6
+
+-- room for the reply to an insert of this entity, whatever its tag is: 256 bytes and those of keys and properties
+abbrev pub IsRoomFor : Key → List Prop → ℕ → Type 0
+IsRoomFor key props capacity = 256 + length key.pk + length key.rk + sum_by (λ p. member_size (member_of p)) props ≤ capacity
