@@ -1,1 +1,4 @@
 pub mod StoringLaws
+pub mod FitLaws
+pub mod SessionLaws
+pub mod RunLaws

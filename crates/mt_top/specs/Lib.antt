@@ -1,5 +1,9 @@
 pub mod Heads
 pub mod Bodies
 pub mod Inserts
+pub mod Reading
 pub mod Storing
 pub mod Replies
+pub mod Session
+pub mod Turns
+pub mod Run

@@ -2,5 +2,10 @@
 #![tactic(auto)]
 
 mod entity;
+mod reader;
 mod reply;
+mod running;
+mod session;
 mod storing;
+
+pub use running::{Status, run};
