@@ -29,7 +29,8 @@ sum-put : (f : Prop → ℕ) (p : Prop) (qs : List Prop) → sum_by f (put_prop 
 sum-put f p [] = omega (arith, sum_by-cons f p [])
 sum-put f p (q ∷ qs) = sum-put_by f (slice_cmp nat_cmp p.name q.name) p q qs (put_prop p qs) (sum-put f p qs)
 
-unseen : (which : Hidden) (text : List ℕ) → is_visible (hidden_prop which text) ≡ false
+-- no client sees it
+pub unseen : (which : Hidden) (text : List ℕ) → is_visible (hidden_prop which text) ≡ false
 unseen Kind text = refl
 unseen Tag text = refl
 
