@@ -1,5 +1,5 @@
 -- What a name's value is after a put, a merge and a filter, for crates above.
-use Rattle.std.proofs.Common.{◌≡◌, ℕ, Bool, true, false, not, cond, List, [], ◌∷◌, Option, Some, None, refl, sym, ap, subst, ◌∙◌}
+use Rattle.std.proofs.Common.{◌≡◌, ℕ, Bool, true, false, not, cond, List, [], ◌∷◌, Option, Some, None, refl, sym, ap, subst, ◌∙◌, Result, Ok, Err, OnOk, OnErr}
 use Rattle.std.specs.Prelude.{bytes_eq, filter, find, option_map}
 use Rattle.std.specs.Option.{option_or}
 use Rattle.std.specs.Ordering.{nat_cmp}
@@ -94,3 +94,16 @@ visible_put which text [] = rw (unseen which text) refl
 visible_put which text (q ∷ qs) =
     let p : Prop = hidden_prop which text in
     filter_put_by (cmp p.name q.name) p q qs (put_prop p qs) refl (unseen which text) (visible_put which text qs)
+
+-- whether or not it could be put in
+pub visible_tried : {T E : Type 0} (r : Result T E) (p : Prop) (which : Hidden) (text : List ℕ) (olds news : List Prop) → p ≡ hidden_prop which text
+    → OnOk r (news ≡ put_prop p olds) → OnErr r (news ≡ olds) → filter is_visible news ≡ filter is_visible olds
+visible_tried (Ok t) p which text olds news e done same = rw (done, e) (visible_put which text olds)
+visible_tried (Err f) p which text olds news e done same = rw same refl
+
+pub found_tried : {T E : Type 0} (r : Result T E) (p : Prop) (which : Hidden) (text : List ℕ) (olds news : List Prop) → p ≡ hidden_prop which text
+    → OnOk r (news ≡ put_prop p olds) → OnOk r (hidden_text news which ≡ Some text)
+found_tried (Ok t) p which text olds news e done =
+    let P : List Prop → Type 0 = λ l. hidden_text l which ≡ Some text in
+    subst P (sym (done ∙ ap (λ (q : Prop). put_prop q olds) e)) (hidden_put which text olds)
+found_tried (Err f) p which text olds news e done = tt
