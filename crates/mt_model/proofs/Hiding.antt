@@ -1,5 +1,5 @@
 -- Hidden properties change no limit, and without them the names still rise.
-use Rattle.std.proofs.Common.{◌≡◌, ℕ, ◌+◌, ◌≤◌, Bool, true, false, not, cond, ◌||◌, List, [], ◌∷◌, refl, sym, subst, arith, Result, Ok, Err, OnOk, OnErr}
+use Rattle.std.proofs.Common.{◌≡◌, ℕ, ◌+◌, ◌≤◌, Bool, true, false, not, cond, List, [], ◌∷◌, refl, sym, subst, arith, Result, Ok, Err, OnOk, OnErr}
 use Rattle.std.specs.Prelude.{filter, sum_by}
 use Rattle.std.specs.Ordering.{nat_cmp}
 use Rattle.std.specs.declared.cmp.Ordering.{Ordering}
@@ -14,7 +14,7 @@ use Rattle.mt_model.specs.declared.value.Prop.{Prop}
 use Rattle.mt_model.specs.declared.name.Hidden.{Hidden}
 use Rattle.mt_model.specs.declared.name.Hidden.TheVariants.{Kind, Tag}
 use Rattle.mt_model.specs.Name.{is_hidden}
-use Rattle.mt_model.specs.Props.{IsProps, names, RisingNames, is_visible, too_large_at, visible_prop_size, hidden_prop}
+use Rattle.mt_model.specs.Props.{IsProps, names, is_visible, too_large_at, visible_prop_size, hidden_prop}
 use Rattle.mt_model.specs.Merge.{put_by, put_prop}
 use Rattle.mt_model.proofs.Merging.{RisingNames-put, none-put, or_false}
 

@@ -2,19 +2,16 @@
 use Rattle.std.proofs.Common.{◌≡◌, ℕ, Bool, true, false, not, cond, List, [], ◌∷◌, Option, Some, None, refl, sym, ap, subst, ◌∙◌, Result, Ok, Err, OnOk, OnErr}
 use Rattle.std.specs.Prelude.{bytes_eq, filter, find, option_map}
 use Rattle.std.specs.Option.{option_or}
-use Rattle.std.specs.Ordering.{nat_cmp}
 use Rattle.std.specs.declared.cmp.Ordering.{Ordering}
 use Rattle.std.specs.declared.cmp.Ordering.TheVariants.{Less, Equal, Greater}
 use Rattle.std.specs.List.{AllByRecursion}
 use Rattle.std.specs.List.Sorted.{IsStrictlySortedBy}
-use Rattle.std.specs.Cmp.Lexicographic.{slice_cmp}
 use Rattle.std.proofs.lemmas.Slice.Eq.{bytes_eq-Decides}
 use Rattle.mt_model.specs.declared.value.Value.{Value}
-use Rattle.mt_model.specs.declared.value.Value.TheVariants.{Str}
 use Rattle.mt_model.specs.declared.value.Prop.{Prop}
 use Rattle.mt_model.specs.declared.name.Hidden.{Hidden}
 use Rattle.mt_model.specs.Name.{is_hidden, hidden_name}
-use Rattle.mt_model.specs.Props.{RisingNames, names, is_visible, value_at, text_of, hidden_text, hidden_prop}
+use Rattle.mt_model.specs.Props.{RisingNames, names, is_visible, value_at, hidden_text, hidden_prop}
 use Rattle.mt_model.specs.Merge.{put_by, put_prop, merged}
 use Rattle.mt_model.proofs.Hiding.{unseen}
 use Rattle.mt_model.proofs.Places.{cmp, turned, apart, same_name}

@@ -1,7 +1,6 @@
 use Rattle.std.proofs.Common.{◌≡◌, refl}
-use Rattle.mt_model.specs.declared.value.Prop.{Prop}
 use Rattle.mt_model.specs.declared.value.Value.TheVariants.{Str}
-use Rattle.mt_model.specs.Props.{hidden_prop, hidden_text}
+use Rattle.mt_model.specs.Props.{hidden_prop}
 use Rattle.mt_model.proofs.Hiding.{IsProps-tried}
 use Rattle.mt_model.proofs.Values.{found_tried, visible_tried}
 use Rattle.mt_model.proofs.props.Props.add_hidden.Goals as goal
