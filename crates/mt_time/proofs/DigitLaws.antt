@@ -93,3 +93,13 @@ pub digit_at : (ds : List ℕ) (i : ℕ) → i < length ds → AllDigits 10 ds �
 digit_at [] i lt all = let none : ⊥ = omega (arith, lt) in absurd none
 digit_at (c ∷ cs) zero lt all = digit_from_value c all.0
 digit_at (c ∷ cs) (suc i) lt all = digit_at cs i (omega (arith, lt)) all.1
+
+-- the last digit is written after those before it
+pub numeral_step : (k n : ℕ) → 0 < k → numeral k n ≡ numeral (k - 1) (n / 10) ++ ((48 + n % 10) ∷ [])
+numeral_step zero n some = let none : ⊥ = omega (arith, some) in absurd none
+numeral_step (suc k) n some = let same : suc k - 1 ≡ k = omega arith in numeral_more k n ∙ ap (λ j. numeral j (n / 10) ++ ((48 + n % 10) ∷ [])) (sym same)
+
+pub pushed : (old front whole : List ℕ) (k n digit : ℕ) → 0 < k → front ≡ old ++ numeral (k - 1) (n / 10) → digit ≡ 48 + n % 10 → whole ≡ front ++ (digit ∷ []) → whole ≡ old ++ numeral k n
+pushed old front whole k n digit some before last is =
+    is ∙ ap (λ v. v ++ (digit ∷ [])) before ∙ append_assoc old (numeral (k - 1) (n / 10)) (digit ∷ [])
+    ∙ ap (λ c. old ++ (numeral (k - 1) (n / 10) ++ (c ∷ []))) last ∙ ap (λ v. old ++ v) (sym (numeral_step k n some))
