@@ -1,5 +1,5 @@
 -- Days from 1601 on, and the value of a moment.
-use Rattle.std.proofs.Common.{◌≡◌, ℕ, ◌+◌, ◌-◌, ◌*◌, ◌<◌, ◌≤◌, ap, sym, ◌∙◌, subst, ℤ, ◌<ℤ◌, refl, arith, pos, ◌+ℤ◌, rules, w8, w16}
+use Rattle.std.proofs.Common.{◌≡◌, ℕ, ◌+◌, ◌-◌, ◌<◌, ◌≤◌, ap, ◌∙◌, subst, ℤ, ◌<ℤ◌, refl, arith, pos, ◌+ℤ◌, rules, w8, w16}
 use Rattle.std.specs.Int.{IsInRange}
 use Rattle.std.specs.Prelude.{unsigned_abs, negsuc, ◌≤ℤ◌}
 use mir.Val.{to_z, of_z}

@@ -1,12 +1,10 @@
 -- A number of ticks is the value of one moment with seven decimals.
-use Rattle.std.proofs.Common.{◌≡◌, ℕ, ◌+◌, ◌-◌, ◌*◌, ◌/◌, ◌%◌, ◌^◌, ◌<◌, ◌≤◌, List, length, ℤ, pos, ◌≤ℤ◌, refl, sym, ap, ◌∙◌, subst, arith, Result, Ok, Err}
+use Rattle.std.proofs.Common.{◌≡◌, ℕ, ◌+◌, ◌*◌, ◌<◌, ◌≤◌, List, length, ℤ, pos, ◌≤ℤ◌, sym, ap, ◌∙◌, arith, Result, Ok, Err}
 use Rattle.std.specs.Prelude.{IfOk, unsigned_abs}
-use Rattle.std.specs.Str.Parse.{digits_value}
 use mir.Val.{SFits, to_z, of_z}
 use Rattle.std.proofs.lemmas.Int.{to_z-of_z}
 use mir.Syntax.{w64}
 use Rattle.jiff_core.specs.Calendar.{day_count, days_from_civil, IsYear}
-use Rattle.jiff_core.specs.Date.{epoch_day}
 use Rattle.jiff_core.specs.declared.civil.date.Date.{Date}
 use Rattle.jiff_core.proofs.SignedLemmas.{signed_arith}
 use Rattle.jiff_core.proofs.CalendarLemmas.{days_from_civil-day_count}
@@ -73,6 +71,6 @@ pub ticks_unique : (p q : Parts) → IsDateTime p → IsDateTime q → length q.
 unfolding ticks_of
 ticks_unique p q d e seven is =
     let same = same_time (days_from_1601 p.year p.month p.day) p.hour p.minute p.second (fraction_of p.decimals) (days_from_1601 q.year q.month q.day) q.hour q.minute q.second (fraction_of q.decimals)
-        d.hour e.hour d.minute e.minute d.second e.second (fraction_small p.decimals d.decimals) (fraction_small q.decimals e.decimals) is in
+    d.hour e.hour d.minute e.minute d.second e.second (fraction_small p.decimals d.decimals) (fraction_small q.decimals e.decimals) is in
     let date = same_date p q d e same.same_days in
     same_parts (padded p) q date.0 date.1 date.2 same.same_hour same.same_minute same.same_second (same_decimals p.decimals q.decimals d.decimals e.decimals seven same.same_fraction)

@@ -1,6 +1,6 @@
 -- A moment of UTC as it is written: its parts, its text, and its value in ticks of 100 ns from 1601-01-01T00:00:00Z.
 -- The text is a date-time of RFC 3339 with the offset Z, capital letters and at most seven decimals.
-use Rattle.std.specs.Prelude.{◌≡◌, ℕ, ◌+◌, ◌-◌, ◌*◌, ◌<◌, ◌≤◌, List, [], ◌∷◌, ◌++◌, length, pos}
+use Rattle.std.specs.Prelude.{◌≡◌, ℕ, ◌+◌, ◌-◌, ◌*◌, ◌<◌, List, [], ◌∷◌, ◌++◌, length, ℤ, pos}
 use Rattle.std.specs.Int.{IsInRange}
 use Rattle.jiff_core.specs.Calendar.{day_count, days_in_month}
 use Rattle.mt_time.specs.Digits.{numeral, AreDecimals, seven_of, fraction_of}
@@ -58,5 +58,13 @@ abbrev pub padded : Parts → Parts
 padded p = record p { decimals = seven_of p.decimals }
 
 -- the text is in the grammar and has this value
-abbrev pub HasTicks : List ℕ → ℕ → Type 0
-HasTicks text ticks = (p : Parts) × IsDateTime p × (text ≡ text_of p) × (ticks ≡ ticks_of p)
+abbrev pub HasTicks : List ℕ → ℤ → Type 0
+HasTicks text ticks = (p : Parts) × IsDateTime p × (text ≡ text_of p) × (ticks ≡ pos (ticks_of p))
+
+-- the text is not in the grammar
+abbrev pub HasNoTicks : List ℕ → Type 0
+HasNoTicks text = (ticks : ℤ) → HasTicks text ticks → ⊥
+
+-- the text is in the grammar, has this value, and has seven decimals
+abbrev pub HasTicksInFull : List ℕ → ℤ → Type 0
+HasTicksInFull text ticks = (p : Parts) × IsDateTime p × (length p.decimals ≡ 7) × (text ≡ text_of p) × (ticks ≡ pos (ticks_of p))

@@ -1,7 +1,7 @@
 //! From ticks to texts.
-ghost use Rattle.std.specs.Prelude.{◌≡◌, ℕ, ◌<◌, ◌+◌, ◌-◌, ◌*◌, ◌/◌, ◌%◌, ◌++◌, ◌∷◌, length, IfOk, OnOk, pos, ◌≤ℤ◌, string_bytes};
+ghost use Rattle.std.specs.Prelude.{◌≡◌, ℕ, ◌<◌, ◌+◌, ◌-◌, ◌*◌, ◌/◌, ◌%◌, ◌++◌, ◌∷◌, IfOk, OnOk, pos, ◌≤ℤ◌, string_bytes};
 ghost use Rattle.mt_time.specs.Digits.{numeral};
-ghost use Rattle.mt_time.specs.Moment.{Parts, IsDateTime, text_of, ticks_of, padded};
+ghost use Rattle.mt_time.specs.Moment.{Parts, IsDateTime, text_of, ticks_of, padded, HasTicks, HasTicksInFull};
 ghost use Rattle.mt_time.specs.Written.{with_decimals};
 
 use crate::fields::Fields;
@@ -53,8 +53,9 @@ fn print_fields(alloc: Global, fields: Fields) -> Result<String, AllocError>
 pub fn print_utc(alloc: Global, ticks: i64) -> Result<String, AllocError>
     requires low { pos 0 ≤ℤ ticks }
     requires high { ticks ≤ℤ pos 2_650_467_743_999_999_999 }
-    ensures prints { IfOk result (λ text. (p : Parts) × IsDateTime p × (length p.decimals ≡ 7) × (string_bytes text ≡ text_of p) × (ticks ≡ pos (ticks_of p))) }
-    // a text that is read as these ticks is printed as itself, padded to seven decimals
+    ensures full { IfOk result (λ text. HasTicksInFull (string_bytes text) ticks) }
+    ensures read { IfOk result (λ text. HasTicks (string_bytes text) ticks) }
+    // so a text that `read_utc` read as these ticks is printed as itself, padded to seven decimals
     ensures same { (p : Parts) → IsDateTime p → ticks ≡ pos (ticks_of p) → IfOk result (λ text. string_bytes text ≡ text_of (padded p)) }
 {
     print_fields(alloc, Fields::at(ticks as u64))

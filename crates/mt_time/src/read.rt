@@ -1,8 +1,8 @@
 //! From texts to ticks.
-ghost use Rattle.std.specs.Prelude.{◌≡◌, ℕ, ◌<◌, ◌≤◌, ◌+◌, ◌-◌, ◌*◌, ◌^◌, ◌++◌, ◌∷◌, List, length, drop, MatchOption, IfOk, Ok, pos, IsTrue};
+ghost use Rattle.std.specs.Prelude.{◌≡◌, ℕ, ◌<◌, ◌≤◌, ◌+◌, ◌-◌, ◌*◌, ◌^◌, ◌++◌, ◌∷◌, List, length, drop, MatchOption, IfOk, OnErr, Ok, ℤ};
 ghost use Rattle.std.specs.Str.Parse.{AllDigits, digits_value};
 ghost use Rattle.mt_time.specs.Digits.{numeral, AreDecimals, fraction_of};
-ghost use Rattle.mt_time.specs.Moment.{Parts, IsDateTime, text_of, ticks_of, two_after, end_of};
+ghost use Rattle.mt_time.specs.Moment.{HasTicks, HasNoTicks, two_after, end_of};
 ghost use Rattle.mt_time.specs.Written.{AreShort, IsWritten, IsNotWritten};
 
 use crate::fields::Fields;
@@ -130,8 +130,10 @@ fn read_fields(text: &[u8]) -> Option<Fields>
 /// text outside this grammar, for a day or a time of day that does not exist (second 60 too), and
 /// for a year before 1601. It takes no memory.
 pub fn read_utc(text: &[u8]) -> Result<i64, BadDate>
-    ensures reads { (p : Parts) → IsDateTime p → text.now ≡ text_of p → result ≡ Ok (pos (ticks_of p)) }
-    ensures grammar { IfOk result (λ _. (p : Parts) × IsDateTime p × (text.now ≡ text_of p)) }
+    ensures ok { IfOk result (HasTicks text.now) }
+    ensures bad { OnErr result (HasNoTicks text.now) }
+    // so what `print_utc` printed is read as the ticks that it was given
+    ensures one { (ticks : ℤ) → HasTicks text.now ticks → result ≡ Ok ticks }
 {
     let Some(fields) = read_fields(text) else {
         return Err(BadDate);

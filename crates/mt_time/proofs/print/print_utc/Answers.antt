@@ -7,11 +7,17 @@ use Rattle.mt_time.proofs.DigitLaws.{length-numeral}
 use Rattle.mt_time.proofs.UniqueLaws.{if_ok, nonnegative, ticks_unique}
 use Rattle.mt_time.proofs.print.print_utc.Goals as goal
 
-pub returns-clause-prints : goal.returns-clause-prints
-returns-clause-prints c =
+pub returns-clause-full : goal.returns-clause-full
+returns-clause-full c =
     let q : Parts = with_decimals c.at.result (numeral 7 c.at.result.fraction) in
     let value : c.args.ticks ≡ pos (ticks_of q) = nonnegative c.args.ticks c.ranges.ticks c.requires.low ∙ ap pos c.at.ensures.ticks in
     if_ok c.print_fields.result _ _ (λ text is. (q, c.at.ensures.date, length-numeral 7 c.at.result.fraction, is, value)) c.print_fields.ensures
+
+pub returns-clause-read : goal.returns-clause-read
+returns-clause-read c =
+    let q : Parts = with_decimals c.at.result (numeral 7 c.at.result.fraction) in
+    let value : c.args.ticks ≡ pos (ticks_of q) = nonnegative c.args.ticks c.ranges.ticks c.requires.low ∙ ap pos c.at.ensures.ticks in
+    if_ok c.print_fields.result _ _ (λ text is. (q, c.at.ensures.date, is, value)) c.print_fields.ensures
 
 pub returns-clause-same : goal.returns-clause-same
 returns-clause-same c p date is =

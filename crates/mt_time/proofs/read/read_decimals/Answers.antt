@@ -1,4 +1,4 @@
-use Rattle.std.proofs.Common.{◌≡◌, ◌^◌, ◌-◌, length, rules, arith}
+use Rattle.std.proofs.Common.{rules, arith}
 use Rattle.mt_time.specs.Digits.{AreDecimals}
 use Rattle.mt_time.proofs.FractionLaws.{fraction_by_zeros}
 use Rattle.mt_time.proofs.read.read_decimals.Goals as goal

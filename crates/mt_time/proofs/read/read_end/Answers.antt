@@ -1,7 +1,7 @@
-use Rattle.std.proofs.Common.{◌≡◌, ℕ, List, ◌∷◌, [], ◌++◌, length, rules}
+use Rattle.std.proofs.Common.{◌≡◌, ℕ, List, ◌∷◌, [], ◌++◌}
 use Rattle.std.proofs.lemmas.Bool.Decides.{Decides-eqb}
 use Rattle.std.proofs.lemmas.Slice.Eq.{strip_prefix_is, strip_suffix_is}
-use Rattle.mt_time.proofs.TextLaws.{end_without_z, end_without_point, end_read}
+use Rattle.mt_time.proofs.TextLaws.{end_without_z, end_read}
 use Rattle.mt_time.proofs.read.read_end.Goals as goal
 
 pub returns-in_default : goal.returns-in_default

@@ -1,5 +1,5 @@
-use Rattle.std.proofs.Common.{◌≡◌, ◌∙◌}
-use Rattle.mt_time.specs.Written.{AreShort, with_decimals}
+use Rattle.std.proofs.Common.{◌∙◌}
+use Rattle.mt_time.specs.Written.{with_decimals}
 use Rattle.mt_time.proofs.TextLaws.{at_month, at_day, at_hour, at_minute, at_second, text_is, text_made, rest_same, rest_after}
 use Rattle.mt_time.specs.Moment.{end_of}
 use Rattle.mt_time.specs.declared.fields.Fields.{Fields}
@@ -57,14 +57,14 @@ pub returns : goal.returns
 returns c =
     let end = c.in-Some-read_end.ensures in
     let fields : Fields = record {
-          year = c.in-Some.year;
-          month = c.in-Some-read_two_after.month;
-          day = c.in-Some-read_two_after-2.day;
-          hour = c.in-Some-read_two_after-3.hour;
-          minute = c.in-Some-read_two_after-4.minute;
-          second = c.in-Some-read_two_after-5.second;
-          fraction = c.in-Some-read_end.fraction;
-        } in (
+      year = c.in-Some.year;
+      month = c.in-Some-read_two_after.month;
+      day = c.in-Some-read_two_after-2.day;
+      hour = c.in-Some-read_two_after-3.hour;
+      minute = c.in-Some-read_two_after-4.minute;
+      second = c.in-Some-read_two_after-5.second;
+      fraction = c.in-Some-read_end.fraction;
+    } in (
       record {
         year = c.in-Some.ensures.0;
         month = c.in-Some-read_two_after.ensures.0;
@@ -75,10 +75,12 @@ returns c =
         fraction = end.0;
       },
       (
-        end.1.0, end.1.1, end.1.3,
+        end.1.0,
+        end.1.1,
+        end.1.3,
         text_made (with_decimals fields end.1.0) c.args.text.now c.in-Some.rest.now c.in-Some-read_two_after.rest.now c.in-Some-read_two_after-2.rest.now
-        c.in-Some-read_two_after-3.rest.now c.in-Some-read_two_after-4.rest.now c.in-Some-read_two_after-5.rest.now c.in-Some.ensures.1
-        c.in-Some-read_two_after.ensures.1 c.in-Some-read_two_after-2.ensures.1 c.in-Some-read_two_after-3.ensures.1
-        c.in-Some-read_two_after-4.ensures.1 c.in-Some-read_two_after-5.ensures.1 end.1.2,
+            c.in-Some-read_two_after-3.rest.now c.in-Some-read_two_after-4.rest.now c.in-Some-read_two_after-5.rest.now c.in-Some.ensures.1
+            c.in-Some-read_two_after.ensures.1 c.in-Some-read_two_after-2.ensures.1 c.in-Some-read_two_after-3.ensures.1
+            c.in-Some-read_two_after-4.ensures.1 c.in-Some-read_two_after-5.ensures.1 end.1.2,
       ),
     )

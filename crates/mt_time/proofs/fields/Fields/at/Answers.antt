@@ -1,4 +1,4 @@
-use Rattle.std.proofs.Common.{◌≡◌, ℕ, ◌+◌, ◌-◌, ◌*◌, ◌/◌, ◌%◌, ◌∙◌, sym, ap, subst, refl, arith}
+use Rattle.std.proofs.Common.{◌≡◌, ℕ, ◌+◌, ◌/◌, ◌%◌, ◌∙◌, sym, subst, refl, arith}
 use Rattle.mt_time.specs.Digits.{numeral}
 use Rattle.mt_time.specs.Moment.{ticks_at}
 use Rattle.mt_time.specs.Written.{with_decimals}
@@ -42,13 +42,13 @@ returns-clause-ticks c =
     same_day (unsigned_abs date.year) date.month date.day (days + 4_236_813) c.from.result c.from-2.result c.from-3.result year c.from-2.ensures c.from-3.ensures
     (day_at date days c.from_days_since_min-date.ensures) in
     let fields : Fields = record {
-          year = c.from.result;
-          month = c.from-2.result;
-          day = c.from-3.result;
-          hour = t / 10_000_000 / 60 / 60 % 24;
-          minute = t / 10_000_000 / 60 % 60;
-          second = t / 10_000_000 % 60;
-          fraction = t % 10_000_000;
-        } in
+      year = c.from.result;
+      month = c.from-2.result;
+      day = c.from-3.result;
+      hour = t / 10_000_000 / 60 / 60 % 24;
+      minute = t / 10_000_000 / 60 % 60;
+      second = t / 10_000_000 % 60;
+      fraction = t % 10_000_000;
+    } in
     split t ∙ ticks_made (with_decimals fields (numeral 7 (t % 10_000_000))) days fields.hour fields.minute fields.second fields.fraction
     (omega (arith, day.days)) refl refl refl (sym (fraction_of_numeral (t % 10_000_000) (omega arith)))

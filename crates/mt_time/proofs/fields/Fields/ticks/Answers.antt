@@ -21,5 +21,5 @@ returns-clause-value c ds decimals fraction =
         decimals = decimals;
       },
       ticks_made (with_decimals c.args.self ds) c.from.result c.from-2.result c.from-3.result c.from-4.result c.from-5.result
-      (c.from.ensures ∙ day.days) c.from-2.ensures c.from-3.ensures c.from-4.ensures (c.from-5.ensures ∙ fraction),
+          (c.from.ensures ∙ day.days) c.from-2.ensures c.from-3.ensures c.from-4.ensures (c.from-5.ensures ∙ fraction),
     )
