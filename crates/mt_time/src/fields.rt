@@ -6,6 +6,9 @@ ghost use Rattle.mt_time.specs.Written.{AreShort, with_decimals};
 
 use jiff_core::civil::Date;
 
+/// The first year whose moments have ticks.
+const FIRST_YEAR: u32 = 1601;
+
 /// The days from the first date of the calendar, -9999-01-01, to 1601-01-01.
 pub const DAYS_BEFORE_1601: u32 = 4_236_813;
 
@@ -35,7 +38,7 @@ impl Fields {
             ((ds : List ℕ) → IsDateTime (with_decimals self ds) → ⊥)
             (λ ticks. (ds : List ℕ) → AreDecimals ds → self.fraction ≡ fraction_of ds → IsDateTime (with_decimals self ds) × (ticks ≡ ticks_of (with_decimals self ds))) }
     {
-        if self.year < 1601 || self.hour > 23 || self.minute > 59 || self.second > 59 {
+        if self.year < FIRST_YEAR || self.hour > 23 || self.minute > 59 || self.second > 59 {
             return None;
         }
         let Ok(date) = Date::new(self.year as i16, self.month as i8, self.day as i8) else {

@@ -5,12 +5,12 @@ use Rattle.mt_time.proofs.fields.Fields.ticks.Goals as goal
 
 pub overflow_sub-days : goal.overflow_sub-days
 overflow_sub-days c =
-    (day_of_date c.in-Ok.date c.args.self.year c.args.self.month c.args.self.day c.days_since_min-days.result (small_parts c.in-Ok.date c.args.self.year c.args.self.month c.args.self.day c.requires.year c.requires.month c.requires.day c.in-Ok.ensures.value) c.days_since_min-days.ensures.value c.if-self-lt1601.false).late
+    (day_of_date c.in-Ok.date c.args.self.year c.args.self.month c.args.self.day c.days_since_min-days.result (small_parts c.in-Ok.date c.args.self.year c.args.self.month c.args.self.day c.requires.year c.requires.month c.requires.day c.in-Ok.ensures.value) c.days_since_min-days.ensures.value c.if-self-lt-FIRST_YEAR.false).late
 
 pub returns-clause-value : goal.returns-clause-value
 returns-clause-value c ds decimals fraction =
     let day : IsDayOf c.args.self.year c.args.self.month c.args.self.day c.days_since_min-days.result =
-    day_of_date c.in-Ok.date c.args.self.year c.args.self.month c.args.self.day c.days_since_min-days.result (small_parts c.in-Ok.date c.args.self.year c.args.self.month c.args.self.day c.requires.year c.requires.month c.requires.day c.in-Ok.ensures.value) c.days_since_min-days.ensures.value c.if-self-lt1601.false in (
+    day_of_date c.in-Ok.date c.args.self.year c.args.self.month c.args.self.day c.days_since_min-days.result (small_parts c.in-Ok.date c.args.self.year c.args.self.month c.args.self.day c.requires.year c.requires.month c.requires.day c.in-Ok.ensures.value) c.days_since_min-days.ensures.value c.if-self-lt-FIRST_YEAR.false in (
       record {
         year = day.year_in;
         month = day.month_in;
