@@ -49,6 +49,7 @@ impl Fields {
         let seconds = (hours * 60 + u64::from(self.minute)) * 60 + u64::from(self.second);
         Some(seconds * TICKS_PER_SECOND + u64::from(self.fraction))
     }
+
     /// The parts of the moment that many ticks after 1601-01-01T00:00:00Z.
     pub fn at(ticks: u64) -> Fields
         requires { ticks ≤ 2_650_467_743_999_999_999 }

@@ -54,7 +54,8 @@ pub fn print_utc(alloc: Global, ticks: i64) -> Result<String, AllocError>
     requires low { pos 0 ≤ℤ ticks }
     requires high { ticks ≤ℤ pos 2_650_467_743_999_999_999 }
     ensures full { IfOk result (λ text. HasTicksInFull (string_bytes text) ticks) }
-    ensures read { IfOk result (λ text. HasTicks (string_bytes text) ticks) }
+    // so `read_utc` reads it as these ticks
+    ensures reads_back { IfOk result (λ text. HasTicks (string_bytes text) ticks) }
     // so a text that `read_utc` read as these ticks is printed as itself, padded to seven decimals
     ensures same { (p : Parts) → IsDateTime p → ticks ≡ pos (ticks_of p) → IfOk result (λ text. string_bytes text ≡ text_of (padded p)) }
 {

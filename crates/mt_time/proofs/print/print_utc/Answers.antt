@@ -13,8 +13,8 @@ returns-clause-full c =
     let value : c.args.ticks ≡ pos (ticks_of q) = nonnegative c.args.ticks c.ranges.ticks c.requires.low ∙ ap pos c.at.ensures.ticks in
     if_ok c.print_fields.result _ _ (λ text is. (q, c.at.ensures.date, length-numeral 7 c.at.result.fraction, is, value)) c.print_fields.ensures
 
-pub returns-clause-read : goal.returns-clause-read
-returns-clause-read c =
+pub returns-clause-reads_back : goal.returns-clause-reads_back
+returns-clause-reads_back c =
     let q : Parts = with_decimals c.at.result (numeral 7 c.at.result.fraction) in
     let value : c.args.ticks ≡ pos (ticks_of q) = nonnegative c.args.ticks c.ranges.ticks c.requires.low ∙ ap pos c.at.ensures.ticks in
     if_ok c.print_fields.result _ _ (λ text is. (q, c.at.ensures.date, is, value)) c.print_fields.ensures
