@@ -1,7 +1,7 @@
 -- The two ends over memory as contracts see them, and exactly what their calls do.
-use Rattle.std.specs.Prelude.{◌≡◌, ℕ, ◌+◌, ◌-◌, ◌^◌, ◌≤◌, min, max, List, [], ◌∷◌, ◌++◌, length, drop, Bool, false, Some, ◌⊎◌}
+use Rattle.std.specs.Prelude.{◌≡◌, ℕ, ◌+◌, ◌^◌, ◌≤◌, min, max, List, [], ◌∷◌, ◌++◌, length, drop, Bool, false, Some, ◌⊎◌}
 use Rattle.std.specs.List.{Contains}
-use Rattle.mt_io.specs.Ends.{Input, Output}
+use Rattle.mt_io.specs.Ends.{Input, Output, raised}
 
 -- a source: the bytes that it will give, the sizes of the pieces to come, and the reads that fail
 pub record MemoryInput : Type 0 where
@@ -29,10 +29,6 @@ input_of s = record { number = s.number; left = Some s.left; calls = s.calls; fa
 -- what such a sink tells as an end that is written
 abbrev pub output_of : MemoryOutput → Output
 output_of s = record { number = s.number; held = Some s.held; calls = s.calls; faults = s.faults; «open» = s.open }
-
--- one more, or the end of a count
-abbrev pub raised : ℕ → ℕ
-raised count = min (count + 1) (2 ^ 64 - 1)
 
 -- the next read fails: the source is closed, the read is listed, or it has the number 2^32 or a later one
 abbrev pub ReadFails : MemoryInput → Type 0

@@ -1,6 +1,6 @@
 //! Counts that stand still at their end.
 ghost use Rattle.std.specs.Prelude.{◌≡◌, ◌≤◌};
-ghost use Rattle.mt_io.specs.Memory.{raised};
+ghost use Rattle.mt_io.specs.Ends.{raised};
 
 /// The number of the first read that every source refuses.
 pub const READ_LIMIT: u64 = 1 << 32;

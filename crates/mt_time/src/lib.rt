@@ -1,0 +1,11 @@
+//! Moments of UTC as texts and as ticks of 100 ns from 1601-01-01T00:00:00Z.
+#![tactic(auto)]
+
+mod fields;
+mod print;
+mod read;
+#[cfg(test)]
+mod tests;
+
+pub use print::print_utc;
+pub use read::{BadDate, read_utc};
