@@ -2,3 +2,5 @@ pub mod KeyLaws
 pub mod RowLaws
 pub mod PutLaws
 pub mod JudgeLaws
+mod OrderLaws
+mod SearchLaws

@@ -3,3 +3,4 @@ pub mod Puts
 pub mod StoreCall
 pub mod Store
 pub mod Shelf
+pub mod Places

@@ -3,6 +3,7 @@
 
 mod depot;
 mod keeper;
+mod mem;
 mod query;
 mod row;
 

@@ -1,0 +1,2 @@
+//! Stores in memory.
+mod lookup;
