@@ -4,3 +4,4 @@ pub mod PutLaws
 pub mod JudgeLaws
 mod OrderLaws
 mod SearchLaws
+mod ChangeLaws

@@ -4,3 +4,5 @@ pub mod StoreCall
 pub mod Store
 pub mod Shelf
 pub mod Places
+pub mod Memory
+pub mod Changes

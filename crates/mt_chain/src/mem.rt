@@ -1,2 +1,3 @@
 //! Stores in memory.
+mod change;
 mod lookup;
