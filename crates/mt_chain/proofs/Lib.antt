@@ -5,3 +5,4 @@ pub mod JudgeLaws
 mod OrderLaws
 mod SearchLaws
 mod ChangeLaws
+mod AnswerLaws

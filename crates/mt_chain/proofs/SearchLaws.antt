@@ -19,10 +19,10 @@ use Rattle.mt_chain.proofs.OrderLaws.{lt_less, reversed, FallsByKey, RisesByKey}
 abbrev Entry : Type 0
 Entry = Key × Stored
 
-rest_rising : (e : Entry) (rows : Rows) → are_rising (e ∷ rows) ≡ true → are_rising rows ≡ true
+pub rest_rising : (e : Entry) (rows : Rows) → are_rising (e ∷ rows) ≡ true → are_rising rows ≡ true
 rest_rising e rows h = (and_parts (below_all key_cmp e.0 rows) (is_sorted key_cmp rows) h).1
 
-head_below : (e : Entry) (rows : Rows) → are_rising (e ∷ rows) ≡ true → below_all key_cmp e.0 rows ≡ true
+pub head_below : (e : Entry) (rows : Rows) → are_rising (e ∷ rows) ≡ true → below_all key_cmp e.0 rows ≡ true
 head_below e rows h = (and_parts (below_all key_cmp e.0 rows) (is_sorted key_cmp rows) h).0
 
 below_at : (x : Key) (rows : Rows) (k : ℕ) (d : Entry) → below_all key_cmp x rows ≡ true → k < length rows → key_cmp x (get_or rows k d).0 ≡ Less
@@ -85,7 +85,7 @@ find_gap key rows at ends = find_none key rows (no_tie key rows at ends.1)
 
 -- ---- partitions
 
-any_at : (test : Entry → Bool) (rows : Rows) (at : ℕ) (d : Entry) → at < length rows → test (get_or rows at d) ≡ true → list_any test rows ≡ true
+pub any_at : (test : Entry → Bool) (rows : Rows) (at : ℕ) (d : Entry) → at < length rows → test (get_or rows at d) ≡ true → list_any test rows ≡ true
 any_at test [] at d l e = absurd (omega arith)
 any_at test (x ∷ rows) zero d l e = ap (λ t. t || list_any test rows) e
 any_at test (x ∷ rows) (suc at) d l e = or_right (test x) (list_any test rows) (any_at test rows at d (omega arith) e) where
@@ -93,7 +93,7 @@ any_at test (x ∷ rows) (suc at) d l e = or_right (test x) (list_any test rows)
   or_right true b e = refl
   or_right false b e = e
 
-any_none : (test : Entry → Bool) (rows : Rows) → ((k : ℕ) (d : Entry) → k < length rows → test (get_or rows k d) ≡ false) → list_any test rows ≡ false
+pub any_none : (test : Entry → Bool) (rows : Rows) → ((k : ℕ) (d : Entry) → k < length rows → test (get_or rows k d) ≡ false) → list_any test rows ≡ false
 any_none test [] none = refl
 any_none test (x ∷ rows) none = ap (λ t. t || list_any test rows) (none 0 x (omega arith)) ∙ any_none test rows (λ k d l. none (suc k) d (omega arith))
 

@@ -1,3 +1,5 @@
 //! Stores in memory.
+mod answer;
 mod change;
+mod judge;
 mod lookup;
