@@ -6,3 +6,5 @@ mod OrderLaws
 mod SearchLaws
 mod ChangeLaws
 mod AnswerLaws
+mod TagLaws
+mod MemoryLaws

@@ -7,7 +7,7 @@ use Rattle.mt_chain.specs.declared.keeper.KeepFault.{KeepFault}
 use Rattle.mt_chain.specs.declared.keeper.KeepFault.TheVariants.{Unmet, Sealed, Failed, NoMemory}
 use Rattle.mt_chain.specs.Rows.{Rows, are_rising}
 use Rattle.mt_chain.specs.Puts.{all_rows_after, all_counter_after}
-use Rattle.mt_chain.specs.StoreCall.{Contents}
+use Rattle.mt_chain.specs.StoreCall.{Contents, Done, UnmetAt, SealedOff, judge}
 use Rattle.mt_chain.specs.Store.{Store}
 
 pub record Memory : Type 0 where
@@ -76,9 +76,22 @@ Leaves fails m done (Err NoMemory) after = (fails ≡ false) × (after ≡ count
 abbrev pub LeavesRead : {A : Type 0} → Memory → Result A KeepFault → Memory → Type 0
 LeavesRead m r after = Leaves (is_failing m) m (counted m) r after
 
--- the rows, the counter and the call after puts that were done
-abbrev pub applied : Memory → List ℕ → List Put → Memory
-applied m pk puts = record { store = m.store; rows = all_rows_after m.store m.counter pk puts m.rows; sealed = m.sealed; counter = all_counter_after m.counter puts; calls = risen m.calls; faults = m.faults; failing = m.failing }
+-- puts were done, and nothing else changed
+abbrev pub done_in : Memory → List ℕ → List Put → Memory
+done_in m pk puts = record { store = m.store; rows = all_rows_after m.store m.counter pk puts m.rows; sealed = m.sealed; counter = all_counter_after m.counter puts; calls = m.calls; faults = m.faults; failing = m.failing }
 
-abbrev pub sealed_by_call : Memory → Memory
-sealed_by_call m = record { store = m.store; rows = m.rows; sealed = true; counter = m.counter; calls = risen m.calls; faults = m.faults; failing = m.failing }
+-- the store was sealed, and nothing else changed
+abbrev pub sealed_in : Memory → Memory
+sealed_in m = record { store = m.store; rows = m.rows; sealed = true; counter = m.counter; calls = m.calls; faults = m.faults; failing = m.failing }
+
+-- the count of faults was taken, and nothing else changed
+abbrev pub without_faults : Memory → Memory
+without_faults m = record { store = m.store; rows = m.rows; sealed = m.sealed; counter = m.counter; calls = m.calls; faults = 0; failing = m.failing }
+
+-- what puts come to that are not to fail
+abbrev pub Judges : Memory → List ℕ → List Put → Result (List Tag) KeepFault → Memory → Type 0
+Judges m pk puts (Ok tags) after = (judge m.store (contents_of m) pk puts ≡ Done (contents_of after) tags) × (after ≡ done_in m pk puts)
+Judges m pk puts (Err (Unmet index)) after = (judge m.store (contents_of m) pk puts ≡ UnmetAt index) × (after ≡ m)
+Judges m pk puts (Err Sealed) after = (judge m.store (contents_of m) pk puts ≡ SealedOff) × (after ≡ m)
+Judges m pk puts (Err Failed) after = ⊥
+Judges m pk puts (Err NoMemory) after = after ≡ m

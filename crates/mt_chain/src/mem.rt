@@ -2,4 +2,7 @@
 mod answer;
 mod change;
 mod judge;
+mod keeper;
 mod lookup;
+
+pub use keeper::MemKeeper;
