@@ -6,3 +6,4 @@ pub mod Shelf
 pub mod Places
 pub mod Memory
 pub mod Changes
+pub mod MemoryShelf

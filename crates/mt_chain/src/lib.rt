@@ -9,6 +9,6 @@ mod row;
 
 pub use depot::{Depot, DepotFault};
 pub use keeper::{KeepFault, Keeper};
-pub use mem::MemKeeper;
+pub use mem::{MemDepot, MemKeeper};
 pub use query::{Found, Next, PkFrom, Range, RangeQuery, RkFrom};
 pub use row::{Put, Puts, Stored, StoredRow, StoredRows, Tags};

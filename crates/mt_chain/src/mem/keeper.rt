@@ -116,6 +116,7 @@ impl MemKeeper {
     pub(crate) fn take_faults(&mut self) -> u64
         ensures faults { result ≡ self.old.faults }
         ensures rest { self.new ≡ without_faults self.old }
+        ensures memory { IsMemory self.old }
     {
         let faults = self.faults;
         self.faults = 0;
