@@ -84,7 +84,7 @@ rising_after store n pk (put ∷ puts) rows h = rising_after store (counter_afte
 
 -- ---- counter and tags
 
-counter_one : (n : ℕ) (put : Put) → (n ≤ counter_after n put) × (counter_after n put ≤ n + 1)
+pub counter_one : (n : ℕ) (put : Put) → (n ≤ counter_after n put) × (counter_after n put ≤ n + 1)
 counter_one n (Check rk tag) = (omega arith, omega arith)
 counter_one n (Insert rk props) = (omega arith, omega arith)
 counter_one n (Replace rk props tag) = (omega arith, omega arith)
