@@ -1,4 +1,4 @@
 pub mod StoringLaws
 pub mod FitLaws
 pub mod SessionLaws
-pub mod RunLaws
+pub mod RunningLaws

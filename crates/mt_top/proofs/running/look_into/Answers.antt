@@ -1,6 +1,6 @@
 use Rattle.std.proofs.Common.{◌≡◌, ap, refl}
 use Rattle.mt_chain.specs.declared.query.PkFrom.TheVariants.{From}
-use Rattle.mt_top.proofs.RunLaws.{looks_shown}
+use Rattle.mt_top.proofs.RunningLaws.{looks_shown}
 use Rattle.mt_top.proofs.running.look_into.Goals as goal
 
 pub returns-in-Ok-next_partition : goal.returns-in-Ok-next_partition

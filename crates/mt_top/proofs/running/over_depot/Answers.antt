@@ -1,4 +1,4 @@
-use Rattle.mt_top.proofs.RunLaws.{over_depot_law}
+use Rattle.mt_top.proofs.RunningLaws.{over_depot_law}
 use Rattle.mt_top.proofs.running.over_depot.Goals as goal
 
 pub returns : goal.returns
