@@ -2,3 +2,5 @@ pub mod Heads
 pub mod Bodies
 pub mod Inserts
 pub mod Reading
+pub mod Runs
+pub mod Peels

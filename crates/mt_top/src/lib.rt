@@ -2,4 +2,6 @@
 #![tactic(auto)]
 
 mod entity;
+mod heads;
 mod reader;
+mod runs;
