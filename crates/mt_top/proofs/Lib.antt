@@ -1,2 +1,6 @@
+mod EndLaws
 mod FieldLaws
+mod HeadLaws
+mod LineLaws
 mod RunLaws
+mod SectionLaws

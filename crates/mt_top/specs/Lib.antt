@@ -4,3 +4,4 @@ pub mod Inserts
 pub mod Reading
 pub mod Runs
 pub mod Peels
+pub mod HeadEnds

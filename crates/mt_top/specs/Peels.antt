@@ -3,7 +3,7 @@ use Rattle.std.specs.Prelude.{◌≡◌, ◌≢◌, ℕ, ◌<◌, ◌≤◌, Boo
 use Rattle.mt_top.specs.declared.heads.Line.{Line}
 use Rattle.mt_top.specs.declared.heads.Kind.{Kind}
 use Rattle.mt_top.specs.declared.heads.Kind.TheVariants.{Plain, Length, Refused}
-use Rattle.mt_top.specs.Heads.{Field, IsField, IsFramed, IsWord, is_same, is_target_byte, field_line, field_lines, line_end, fields_named}
+use Rattle.mt_top.specs.Heads.{Field, Head, IsHead, print_head, IsField, IsFramed, IsWord, is_same, is_target_byte, field_line, field_lines, line_end, fields_named}
 
 abbrev pub field_of : Line → Field
 field_of l = record { name = l.name.now; value = l.value.now }
@@ -82,3 +82,18 @@ pub record Walked (bytes : List ℕ) (rest : List ℕ) (size : Option ℕ) (coun
   pub count_is : count ≡ length fields
   pub noted : Noted fields size
   pub whole : bytes ≡ field_lines fields ++ rest
+
+-- the head of an insert on the table with a body of n bytes
+pub record IsOpening (h : Head) (n : ℕ) : Type 0 where
+  pub head : IsHead h
+  pub method : h.method ≡ codes "POST"
+  pub table : is_same h.target (codes "/Orders") ≡ true
+  pub framed : IsFramed h.fields n
+
+abbrev pub HasNoHead : List ℕ → Type 0
+HasNoHead bytes = (h : Head) (n : ℕ) → IsOpening h n → bytes ≢ print_head h
+
+pub record HasHead (bytes : List ℕ) (n : ℕ) : Type 0 where
+  pub head : Head
+  pub opening : IsOpening head n
+  pub whole : bytes ≡ print_head head

@@ -1,7 +1,7 @@
 //! The head of a plain insert.
-ghost use Rattle.std.specs.Prelude.{◌≡◌, ◌≢◌, ◌<◌, ◌^◌, ℕ, List, ◌++◌, MatchOption, decimal};
-ghost use Rattle.mt_top.specs.Heads.{is_same};
-ghost use Rattle.mt_top.specs.Peels.{HasField, HasNoField, IsKind, is_foreign, is_sizing, HasSection, HasNoSection, IsTable, insert_line, Announces};
+ghost use Rattle.std.specs.Prelude.{◌≡◌, ◌≢◌, ◌<◌, ◌^◌, ℕ, List, ◌++◌, MatchOption, decimal, IsTrue, ◌↔◌};
+ghost use Rattle.mt_top.specs.Heads.{is_same, line_end};
+ghost use Rattle.mt_top.specs.Peels.{HasField, HasNoField, IsKind, is_foreign, is_sizing, HasSection, HasNoSection, HasHead, HasNoHead, IsTable, insert_line, Announces};
 
 use crate::runs::{Class, after, split_run};
 use itoa::Buffer;
@@ -28,6 +28,9 @@ enum Kind {
 
 /// The greatest body, in bytes.
 const MAX_BODY: u64 = 4_194_304;
+
+/// The greatest head, in bytes.
+const MAX_HEAD: usize = 16_384;
 
 /// The greatest number of fields.
 const MAX_FIELDS: usize = 64;
@@ -150,6 +153,12 @@ fn kind_of(name: &[u8], value: &[u8]) -> Kind
     }
 }
 
+fn is_empty_line(bytes: &[u8]) -> bool
+    ensures { IsTrue result ↔ (bytes.now ≡ line_end) }
+{
+    bytes == b"\r\n".as_slice()
+}
+
 /// The length that the fields announce, where they are a plain insert's and the bytes end with them.
 fn read_section(bytes: &[u8]) -> Option<usize>
     ensures { MatchOption result (HasNoSection bytes.now) (HasSection bytes.now) }
@@ -157,7 +166,7 @@ fn read_section(bytes: &[u8]) -> Option<usize>
     let mut rest = bytes;
     let mut length = None;
     for _count in 0..MAX_FIELDS + 1 {
-        if rest == b"\r\n".as_slice() {
+        if is_empty_line(rest) {
             return Some(length.unwrap_or(0));
         }
         let Some(line) = peel_field(rest) else {
@@ -165,15 +174,26 @@ fn read_section(bytes: &[u8]) -> Option<usize>
         };
         match kind_of(line.name, line.value) {
             Kind::Plain => {}
-            Kind::Length(n) => {
-                if length.is_some() {
-                    return None;
-                }
-                length = Some(n);
-            }
+            Kind::Length(n) => match length {
+                None => length = Some(n),
+                Some(_) => return None,
+            },
             Kind::Refused => return None,
         }
         rest = line.rest;
     }
     None
+}
+
+/// The length of the body that a head announces, where the bytes are the head of an insert.
+pub fn parse_head(bytes: &[u8]) -> Option<usize>
+    ensures { MatchOption result (HasNoHead bytes.now) (HasHead bytes.now) }
+{
+    if bytes.len() > MAX_HEAD {
+        return None;
+    }
+    match after_insert_line(bytes) {
+        Some(fields) => read_section(fields),
+        None => None,
+    }
 }
