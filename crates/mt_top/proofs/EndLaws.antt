@@ -6,6 +6,7 @@ use Rattle.std.proofs.lemmas.List.Elements.{All-head, All-tail}
 use Rattle.std.proofs.lemmas.List.Folds.{list_all-append}
 use Rattle.std.proofs.lemmas.Bool.Decides.{Decides-eqb}
 use Rattle.std.proofs.Math.Seq.{drop-cons}
+use Rattle.std.proofs.lemmas.List.{take_rest}
 use Rattle.mt_top.specs.Heads.{Field, Head, IsField, IsHead, IsWord, is_capital, is_target_byte, is_name_byte, is_value_byte, field_line, field_lines, line_end, print_head}
 use Rattle.mt_top.specs.HeadEnds.{ends_here, beyond, head_end, IsScanned}
 use Rattle.mt_top.proofs.RunLaws.{clash, both}
@@ -142,3 +143,13 @@ scanned_all bytes zero e a = scanned_none bytes
 scanned_all bytes (suc at) e a =
     let le : suc at + 3 ≤ length bytes = omega (arith, a) in
     record { within = omega (arith, le); none = scan_from (suc at) bytes e le }
+
+-- one place further, where no head ends at this one
+pub scan_step : (bytes : List ℕ) (at : ℕ) → at < length bytes → false ≡ ends_here (take (length bytes - at) (drop at bytes)) → head_end bytes ≡ beyond at (head_end (drop at bytes)) → head_end bytes ≡ beyond (at + 1) (head_end (drop (at + 1) bytes))
+scan_step bytes at inside here e =
+    let one : at + 1 ≡ suc at = omega arith in
+    let next : drop at bytes ≡ get_or bytes at 0 ∷ drop (at + 1) bytes = drop-cons bytes at 0 inside ∙ ap (λ (k : ℕ). get_or bytes at 0 ∷ drop k bytes) (sym one) in
+    let whole : take (length bytes - at) (drop at bytes) ≡ get_or bytes at 0 ∷ drop (at + 1) bytes = take_rest bytes at ∙ next in
+    let not_here : ends_here (get_or bytes at 0 ∷ drop (at + 1) bytes) ≡ false = ap ends_here (sym whole) ∙ sym here in
+    e ∙ ap (λ (x : List ℕ). beyond at (head_end x)) next ∙ ap (beyond at) (end_after (get_or bytes at 0) (drop (at + 1) bytes) not_here)
+    ∙ beyond_beyond at 1 (head_end (drop (at + 1) bytes))

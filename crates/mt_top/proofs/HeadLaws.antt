@@ -21,7 +21,7 @@ table_of : (h : Head) (n : ℕ) → IsOpening h n → IsTable h.target
 table_of h n o = record { word = o.head.target; same = o.table }
 
 pub head_parts : (bytes rest t : List ℕ) → IsTable t → bytes ≡ insert_line t ++ rest → length bytes ≤ 16384 → (r : Option ℕ) → MatchOption r (HasNoSection rest) (HasSection rest) → MatchOption r (HasNoHead bytes) (HasHead bytes)
-head_parts bytes rest t is e short None none h n o same =
+head_parts bytes rest t is e short None none = λ h n o same.
     let lines = line_unique t h.target rest (print_section h.fields) is (table_of h n o) (sym e ∙ same ∙ head_prints h o.method) in
     let rests = append_cancel_left (codes " HTTP/1.1\r\n") rest (print_section h.fields) lines.1 in
     none h.fields n (record { fields = o.head.fields; few = o.head.few; framed = o.framed }) rests

@@ -9,7 +9,7 @@ use Rattle.mt_top.specs.Peels.{IsTable, insert_line}
 use Rattle.mt_top.proofs.RunLaws.{run_is}
 
 pub line_split : (t r : List ℕ) → insert_line t ++ r ≡ codes "POST " ++ (t ++ (codes " HTTP/1.1\r\n" ++ r))
-pub line_split t r = simp append_assoc
+line_split t r = simp append_assoc
 
 pub target_of : (bytes after run rest t r : List ℕ) → bytes ≡ codes "POST " ++ after → IsRun is_target_byte after run rest → IsTable t → bytes ≡ insert_line t ++ r → (run ≡ t) × (rest ≡ codes " HTTP/1.1\r\n" ++ r)
 target_of bytes after run rest t r a i is e =
