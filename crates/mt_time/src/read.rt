@@ -1,0 +1,121 @@
+//! From texts to ticks.
+ghost use Rattle.std.specs.Prelude.{◌≡◌, ℕ, ◌<◌, ◌≤◌, ◌+◌, ◌-◌, ◌*◌, ◌^◌, ◌++◌, ◌∷◌, List, length, drop, MatchOption, IfOk, Ok, pos, IsTrue};
+ghost use Rattle.std.specs.Str.Parse.{AllDigits, digits_value};
+ghost use Rattle.mt_time.specs.Digits.{numeral, AreDecimals, fraction_of};
+ghost use Rattle.mt_time.specs.Moment.{Parts, IsDateTime, text_of, ticks_of, two_after, end_of};
+ghost use Rattle.mt_time.specs.Written.{AreShort, IsWritten, IsNotWritten};
+
+use crate::fields::Fields;
+
+/// A text that is no moment of the grammar.
+#[derive(Clone, Copy, Debug, Drop, PartialEq, Eq)]
+pub struct BadDate;
+
+/// The number that these digits write, if they are digits.
+fn digits_number(digits: &[u8]) -> Option<u32>
+    requires { length digits.now ≤ 9 }
+    ensures { MatchOption result (AllDigits 10 digits.now → ⊥) (λ n. AllDigits 10 digits.now × (n ≡ digits_value 10 digits.now)) }
+{
+    let mut number = 0;
+    for digit in digits {
+        if !digit.is_ascii_digit() {
+            return None;
+        }
+        number = number * 10 + u32::from(digit - b'0');
+    }
+    Some(number)
+}
+
+/// The number of `count` digits at the front, and what follows them.
+fn read_number(text: &[u8], count: usize) -> Option<(u32, &[u8])>
+    requires { count ≤ 9 }
+    ensures { MatchOption result
+        ((n : ℕ) (rest : List ℕ) → text.now ≡ numeral count n ++ rest → ⊥)
+        (λ x. (x.0 < 10 ^ count) × (text.now ≡ numeral count x.0 ++ x.1.now)) }
+{
+    let (digits, rest) = text.split_at_checked(count)?;
+    let number = digits_number(digits)?;
+    Some((number, rest))
+}
+
+/// The number of two digits that stand after this character, and what follows them.
+fn read_two_after(text: &[u8], before: u8) -> Option<(u32, &[u8])>
+    ensures { MatchOption result
+        ((n : ℕ) (rest : List ℕ) → text.now ≡ two_after before n rest → ⊥)
+        (λ x. (x.0 < 100) × (text.now ≡ two_after before x.0 x.1.now)) }
+{
+    match text {
+        [first, rest @ ..] if *first == before => read_number(rest, 2),
+        _ => None,
+    }
+}
+
+/// The ticks that the decimals at the end of a text stand for.
+fn read_end(text: &[u8]) -> Option<u32>
+    ensures { MatchOption result
+        ((ds : List ℕ) → AreDecimals ds → text.now ≡ end_of ds → ⊥)
+        (λ n. (n < 10_000_000) × ((ds : List ℕ) × AreDecimals ds × (text.now ≡ end_of ds) × (n ≡ fraction_of ds))) }
+{
+    match text {
+        [b'Z'] => Some(0),
+        [b'.', digits @ .., b'Z'] => read_decimals(digits),
+        _ => None,
+    }
+}
+
+/// The ticks that one to seven decimals stand for.
+fn read_decimals(digits: &[u8]) -> Option<u32>
+    ensures { MatchOption result
+        (AreDecimals digits.now → 0 < length digits.now → ⊥)
+        (λ n. (n < 10_000_000) × AreDecimals digits.now × (0 < length digits.now) × (n ≡ fraction_of digits.now)) }
+{
+    if digits.is_empty() || digits.len() > 7 {
+        return None;
+    }
+    let mut fraction = digits_number(digits)?;
+    for _ in digits.len()..7 {
+        fraction *= 10;
+    }
+    Some(fraction)
+}
+
+/// The numbers of a text, if it is written as a moment is.
+fn read_fields(text: &[u8]) -> Option<Fields>
+    ensures { MatchOption result (IsNotWritten text.now) (λ f. AreShort f × IsWritten text.now f) }
+{
+    let (year, rest) = read_number(text, 4)?;
+    let (month, rest) = read_two_after(rest, b'-')?;
+    let (day, rest) = read_two_after(rest, b'-')?;
+    let (hour, rest) = read_two_after(rest, b'T')?;
+    let (minute, rest) = read_two_after(rest, b':')?;
+    let (second, rest) = read_two_after(rest, b':')?;
+    let fraction = read_end(rest)?;
+    Some(Fields {
+        year,
+        month,
+        day,
+        hour,
+        minute,
+        second,
+        fraction,
+    })
+}
+
+/// The moment that a text names, in ticks of 100 ns from 1601-01-01T00:00:00Z.
+///
+/// The text is `YYYY-MM-DDTHH:MM:SS`, then optionally a point and one to seven digits, then `Z`: a
+/// date-time of RFC 3339 with capital letters and the offset `Z`. `BadDate` comes exactly for a
+/// text outside this grammar, for a day or a time of day that does not exist (second 60 too), and
+/// for a year before 1601. It takes no memory.
+pub fn read_utc(text: &[u8]) -> Result<i64, BadDate>
+    ensures reads { (p : Parts) → IsDateTime p → text.now ≡ text_of p → result ≡ Ok (pos (ticks_of p)) }
+    ensures grammar { IfOk result (λ _. (p : Parts) × IsDateTime p × (text.now ≡ text_of p)) }
+{
+    let Some(fields) = read_fields(text) else {
+        return Err(BadDate);
+    };
+    let Some(ticks) = fields.ticks() else {
+        return Err(BadDate);
+    };
+    Ok(ticks as i64)
+}
