@@ -5,3 +5,4 @@ pub mod Reading
 pub mod Runs
 pub mod Peels
 pub mod HeadEnds
+pub mod Members
