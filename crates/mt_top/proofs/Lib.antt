@@ -1,6 +1,11 @@
 mod EndLaws
+mod EntityLaws
 mod FieldLaws
+mod GatherLaws
 mod HeadLaws
 mod LineLaws
+mod NameLaws
+mod ObjectLaws
 mod RunLaws
 mod SectionLaws
+mod TextLaws
