@@ -1,6 +1,6 @@
 -- How far the reading of an object has come.
 use Rattle.std.proofs.Common.{◌≡◌, ◌≢◌, ℕ, ◌+◌, ◌<◌, ◌≤◌, Bool, true, false, List, [], ◌∷◌, ◌++◌, length, Option, Some, None, Result, Ok, Err, refl, sym, ap, ◌∙◌, arith, append_assoc, append-nil, length-append, codes, subst}
-use Rattle.std.specs.Prelude.{All, MatchOption, option_map}
+use Rattle.std.specs.Prelude.{All, MatchOption, option_map, IfOk}
 use Rattle.std.specs.Option.{option_to_list}
 use Rattle.std.specs.Borrow.{Bor}
 use Rattle.std.proofs.lemmas.List.{append_cancel_left}
@@ -83,9 +83,12 @@ gather_more bytes rest found new g p has notes more e = record {
   holds = notes g.members g.holds has.member;
 }
 
+no_comma : (x : List ℕ) → codes "}" ≡ codes "," ++ x → ⊥
+no_comma x e = cc
+
 last_of : (more : List Member) → codes "}" ≡ print_after more → more ≡ []
 last_of [] e = refl
-last_of (m ∷ more) e = absurd (cc)
+last_of (m ∷ more) e = absurd (no_comma (print_closed (m ∷ more)) e)
 
 pub gather_end : (bytes rest : List ℕ) (found new : Found) → Gathered bytes rest found → (p : Part) → HasMember rest p → NotesAs found (member_of p) (Ok true) new → p.rest.now ≡ codes "}" → (r : Option NewEntity) → EndsAs new r → MatchOption r (HasNoEntity bytes) (HasEntity bytes)
 gather_end bytes rest found new g p has notes end None ends = λ ms key props entity e.
@@ -104,3 +107,8 @@ pub gather_shorter : (rest : List ℕ) (p : Part) → HasMember rest p → (more
 gather_shorter rest p has more e =
     let long : length p.rest.now ≡ length (44 ∷ more) = ap (length {A = ℕ}) e in
     omega (arith, ap (length {A = ℕ}) has.whole, length-append (print_member (member_of p)) p.rest.now, long)
+
+pub gather_ends : (bytes rest : List ℕ) (found new : Found) → Gathered bytes rest found → (p : Part) → HasMember rest p → NotesAs found (member_of p) (Ok true) new → p.rest.now ≡ codes "}" → (r : Result (Option NewEntity) NoMemory) → IfOk r (EndsAs new)
+    → IfOk r (λ (o : Option NewEntity). MatchOption o (HasNoEntity bytes) (HasEntity bytes))
+gather_ends bytes rest found new g p has notes end (Ok o) ends = gather_end bytes rest found new g p has notes end o ends
+gather_ends bytes rest found new g p has notes end (Err e) ends = tt
