@@ -12,12 +12,12 @@ head_prints h e =
     ap (λ (m : List ℕ). m ++ codes " " ++ h.target ++ codes " HTTP/1.1\r\n" ++ field_lines h.fields ++ line_end) e
     ∙ append_assoc (insert_line h.target) (field_lines h.fields) line_end
 
-line_unique : (t u x y : List ℕ) → IsTable t → IsTable u → insert_line t ++ x ≡ insert_line u ++ y → (t ≡ u) × (codes " HTTP/1.1\r\n" ++ x ≡ codes " HTTP/1.1\r\n" ++ y)
+pub line_unique : (t u x y : List ℕ) → IsTable t → IsTable u → insert_line t ++ x ≡ insert_line u ++ y → (t ≡ u) × (codes " HTTP/1.1\r\n" ++ x ≡ codes " HTTP/1.1\r\n" ++ y)
 line_unique t u x y is is' e =
     let same = append_cancel_left (codes "POST ") (t ++ (codes " HTTP/1.1\r\n" ++ x)) (u ++ (codes " HTTP/1.1\r\n" ++ y)) (sym (line_split t x) ∙ e ∙ line_split u y) in
     run_unique is_target_byte t (codes " HTTP/1.1\r\n" ++ x) u 32 (codes "HTTP/1.1\r\n" ++ y) is.word.each refl is'.word.each refl same
 
-table_of : (h : Head) (n : ℕ) → IsOpening h n → IsTable h.target
+pub table_of : (h : Head) (n : ℕ) → IsOpening h n → IsTable h.target
 table_of h n o = record { word = o.head.target; same = o.table }
 
 pub head_parts : (bytes rest t : List ℕ) → IsTable t → bytes ≡ insert_line t ++ rest → length bytes ≤ 16384 → (r : Option ℕ) → MatchOption r (HasNoSection rest) (HasSection rest) → MatchOption r (HasNoHead bytes) (HasHead bytes)

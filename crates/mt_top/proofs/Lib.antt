@@ -1,8 +1,10 @@
 mod EndLaws
 mod EntityLaws
 mod FieldLaws
+mod FillLaws
 mod GatherLaws
 mod HeadLaws
+mod InsertLaws
 mod LineLaws
 mod NameLaws
 mod ObjectLaws

@@ -6,3 +6,4 @@ pub mod Runs
 pub mod Peels
 pub mod HeadEnds
 pub mod Members
+pub mod Filling
