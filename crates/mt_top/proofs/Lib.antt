@@ -1,4 +1,17 @@
-pub mod StoringLaws
-pub mod FitLaws
-pub mod SessionLaws
-pub mod RunningLaws
+mod EndLaws
+mod EntityLaws
+mod FieldLaws
+mod FillLaws
+mod FitLaws
+mod GatherLaws
+mod HeadLaws
+mod InsertLaws
+mod LineLaws
+mod NameLaws
+mod ObjectLaws
+mod RunLaws
+mod RunningLaws
+mod SectionLaws
+mod SessionLaws
+mod StoringLaws
+mod TextLaws

@@ -2,6 +2,11 @@ pub mod Heads
 pub mod Bodies
 pub mod Inserts
 pub mod Reading
+pub mod Runs
+pub mod Peels
+pub mod HeadEnds
+pub mod Members
+pub mod Filling
 pub mod Storing
 pub mod Replies
 pub mod Session

@@ -1,8 +1,12 @@
-ghost use Rattle.std.specs.Prelude.{◌≡◌, [], length};
+//! Requests from the bytes of a source.
+ghost use Rattle.std.specs.Prelude.{◌≡◌, ◌≤◌, ◌+◌, ◌++◌, [], length, drop, if◌then◌else◌};
 ghost use Rattle.mt_top.specs.Reading.{ReadsRequest};
+ghost use Rattle.mt_top.specs.Filling.{Fills, ReadsHead, Waits, TakesAs, IsOpened};
 
-use crate::entity::NewEntity;
-use mt_io::Source;
+use crate::ends::head_end;
+use crate::entity::{NewEntity, read_entity};
+use crate::heads::parse_head;
+use mt_io::{IoFault, Source};
 use std::alloc::Global;
 use std::marker::Model;
 
@@ -26,6 +30,17 @@ pub enum ReadFault {
     NoMemory,
 }
 
+/// How far reading for a head came.
+#[derive(Clone, Copy)]
+enum HeadRead {
+    /// A head ends after that many bytes.
+    Ended(usize),
+    /// The input ended before its first byte.
+    Empty,
+    /// No head stands at the front.
+    Missing,
+}
+
 /// Bytes that were read and not used.
 #[derive(Drop)]
 pub struct Reader {
@@ -44,22 +59,169 @@ impl Model for Reader {
     ghost invariant = { λ r. r.start ≤ vec_len r.bytes };
 }
 
+/// The greatest head, in bytes.
+const MAX_HEAD: usize = 16_384;
+
 impl Reader {
-    /// Nothing was read yet.
+    /// A reader that has no bytes yet.
     pub fn new(alloc: Global) -> Reader
         ensures { result ≡ [] }
     {
-        Reader { bytes: Vec::new(alloc), start: 0, alloc }
+        Reader {
+            bytes: Vec::new(alloc),
+            start: 0,
+            alloc,
+        }
     }
 
-    pub fn len(&self) -> usize
+    fn as_slice(&self) -> &[u8]
+        ensures { result.now ≡ self.now }
+    {
+        &self.bytes[self.start..]
+    }
+
+    fn len(&self) -> usize
         ensures { result ≡ length self.now }
     {
         self.bytes.len() - self.start
     }
+
+    fn skip(&mut self, n: usize)
+        requires { n ≤ length self.old }
+        ensures { self.new ≡ drop n self.old }
+    {
+        self.start += n;
+    }
+
+    /// Moves the bytes to the front.
+    fn make_room(&mut self) -> bool
+        ensures { self.new ≡ self.old }
+    {
+        if self.start > 0 {
+            let mut fresh = Vec::new(self.alloc);
+            if fresh.extend_from_slice(&self.bytes[self.start..]).is_err() {
+                return false;
+            }
+            self.bytes = fresh;
+            self.start = 0;
+        }
+        true
+    }
+
+    fn add(&mut self, piece: &[u8]) -> bool
+        ensures { self.new ≡ (if result then self.old ++ piece.now else self.old) }
+    {
+        self.bytes.extend_from_slice(piece).is_ok()
+    }
+
+    /// Reads a piece; 0 at the end of input.
+    fn fill<S: Source>(&mut self, source: &mut S) -> Result<usize, ReadFault>
+        ensures { Fills self.old (S.input source.old) result self.new (S.input source.new) }
+    {
+        let mut piece = [0u8; 4096];
+        if !self.make_room() {
+            return Err(ReadFault::NoMemory);
+        }
+        match source.read(&mut piece) {
+            Ok(n) => {
+                if self.add(&piece[..n]) {
+                    Ok(n)
+                } else {
+                    Err(ReadFault::NoMemory)
+                }
+            }
+            Err(IoFault::Failed) => Err(ReadFault::Failed),
+        }
+    }
+}
+
+/// Reads on until a head ends, each byte looked at a few times at most.
+fn read_head<S: Source>(reader: &mut Reader, source: &mut S) -> Result<HeadRead, ReadFault>
+    ensures { ReadsHead reader.old (S.input source.old) result reader.new (S.input source.new) }
+{
+    let mut scanned = 0;
+    loop {
+        if let Some(n) = head_end(&reader.as_slice()[scanned..]) {
+            return Ok(HeadRead::Ended(scanned + n));
+        }
+        if reader.len() >= MAX_HEAD {
+            return Ok(HeadRead::Missing);
+        }
+        scanned = reader.len().saturating_sub(3);
+        match reader.fill(source) {
+            Ok(0) => {
+                if reader.len() == 0 {
+                    return Ok(HeadRead::Empty);
+                }
+                return Ok(HeadRead::Missing);
+            }
+            Ok(_) => {}
+            Err(fault) => return Err(fault),
+        }
+    }
+}
+
+/// Reads on until so many bytes are there; false where the input ends before.
+fn wait_for<S: Source>(reader: &mut Reader, source: &mut S, n: usize) -> Result<bool, ReadFault>
+    ensures { Waits reader.old (S.input source.old) n result reader.new (S.input source.new) }
+{
+    while reader.len() < n {
+        match reader.fill(source) {
+            Ok(0) => return Ok(false),
+            Ok(_) => {}
+            Err(fault) => return Err(fault),
+        }
+    }
+    Ok(true)
+}
+
+/// Takes a request off whose head and body are there, if it is an insert.
+fn take_insert(
+    alloc: Global,
+    reader: &mut Reader,
+    head: usize,
+    body: usize,
+) -> Result<Incoming, ReadFault>
+    requires there { head + body ≤ length reader.old }
+    requires small { head + body ≤ 4294967296 }
+    ensures { TakesAs reader.old head body result reader.new }
+{
+    let end = head + body;
+    match read_entity(alloc, &reader.as_slice()[head..end]) {
+        Ok(Some(entity)) => {
+            reader.skip(end);
+            Ok(Incoming::Insert(entity))
+        }
+        Ok(None) => Ok(Incoming::Other),
+        Err(_) => Err(ReadFault::NoMemory),
+    }
+}
+
+/// Reads the body after a head that stands at the front.
+fn read_body<S: Source>(
+    alloc: Global,
+    reader: &mut Reader,
+    source: &mut S,
+    head: usize,
+    body: usize,
+) -> Result<Incoming, ReadFault>
+    requires opened { IsOpened reader.old head body }
+    requires small { head + body ≤ 4294967296 }
+    ensures { ReadsRequest reader.old (S.input source.old) result reader.new (S.input source.new) }
+{
+    match wait_for(reader, source, head + body) {
+        Ok(true) => take_insert(alloc, reader, head, body),
+        Ok(false) => Ok(Incoming::Other),
+        Err(fault) => Err(fault),
+    }
 }
 
 /// Reads the next request, in whatever pieces its bytes come.
+///
+/// A plain insert is `POST` on the table (whose name is compared without regard to case) with a
+/// head in the form of RFC 9112 of at most 16,384 bytes and 64 fields, and a body of the announced
+/// length, at most 4,194,304 bytes: a JSON object (RFC 8259) of texts without blanks and escapes.
+/// It is taken off the input. After `Other` and after an error nothing is said of the reader.
 pub fn read_request<S: Source>(
     alloc: Global,
     reader: &mut Reader,
@@ -67,8 +229,13 @@ pub fn read_request<S: Source>(
 ) -> Result<Incoming, ReadFault>
     ensures { ReadsRequest reader.old (S.input source.old) result reader.new (S.input source.new) }
 {
-    let _ = alloc;
-    let _ = reader.len();
-    source.close();
-    Err(ReadFault::NoMemory)
+    match read_head(reader, source) {
+        Ok(HeadRead::Ended(head)) => match parse_head(&reader.as_slice()[..head]) {
+            Some(body) => read_body(alloc, reader, source, head, body),
+            None => Ok(Incoming::Other),
+        },
+        Ok(HeadRead::Empty) => Ok(Incoming::End),
+        Ok(HeadRead::Missing) => Ok(Incoming::Other),
+        Err(fault) => Err(fault),
+    }
 }
