@@ -1,1 +1,2 @@
 pub mod StoringLaws
+pub mod ReplyLaws

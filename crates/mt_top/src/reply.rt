@@ -1,9 +1,9 @@
-ghost use Rattle.std.specs.Prelude.{◌≡◌, ◌≤◌, ◌+◌, ◌++◌, ◌∷◌, ◌^◌, ◌-◌, min, length, codes, decimal, [], true, All, IfOk, vec_capacity};
+ghost use Rattle.std.specs.Prelude.{◌≡◌, ◌≤◌, ◌+◌, ◌++◌, ◌∷◌, ◌^◌, ◌-◌, min, length, codes, decimal, position, [], true, All, IfOk, vec_capacity};
 ghost use Rattle.mt_model.specs.Name.{is_plain_name};
 ghost use Rattle.mt_model.specs.Tag.{framed};
 ghost use Rattle.mt_top.specs.Bodies.{print_member};
 ghost use Rattle.mt_top.specs.Inserts.{pk_name, rk_name};
-ghost use Rattle.mt_top.specs.Replies.{created_reply, created_head, escaped, etag_name, exists_reply, unsupported_reply, IsRoomFor, HasRoom, Appends, text_of, place_of, below, above, followed, preceded, props_size};
+ghost use Rattle.mt_top.specs.Replies.{created_reply, created_head, escaped, etag_name, exists_reply, unsupported_reply, IsRoomFor, HasRoom, Appends, text_of, lies_above, place_of, below, above, followed, preceded, props_size};
 
 use itoa::Buffer;
 use mt_model::{Key, NoMemory, Prop, Tag, Value};
@@ -131,11 +131,23 @@ fn put_head(room: &mut Vec<u8>, store: &str, n: &str, size: usize)
     put(room, b"\r\n\r\n");
 }
 
+fn lies_above(name: &str, prop: &Prop) -> bool
+    ensures { result ≡ lies_above name.now prop.now }
+{
+    name < prop.name.as_str()
+}
+
+fn first_above(props: &[Prop], name: &str) -> Option<usize>
+    ensures { result ≡ position (lies_above name.now) props.now }
+{
+    props.iter().position(|prop| lies_above(name, prop))
+}
+
 /// The place of the first property whose name stands above `name`, or their number.
 fn place_of(props: &[Prop], name: &str) -> usize
     ensures { result ≡ place_of name.now props.now }
 {
-    match props.iter().position(|prop| name < prop.name.as_str()) {
+    match first_above(props, name) {
         Some(at) => at,
         None => props.len(),
     }
