@@ -105,3 +105,24 @@ preceded ps = flat_map (λ p. codes "," ++ print_member (member_of p)) ps
 -- the bytes of the properties with their commas
 abbrev pub props_size : List Prop → ℕ
 props_size ps = sum_by (λ p. member_size (member_of p)) ps
+
+-- the partition key among properties
+abbrev pub written_pk : List ℕ → List Prop → List ℕ
+written_pk pk props = followed (below pk_name props) ++ print_member (pk_name, pk) ++ preceded (above pk_name props)
+
+-- both keys among properties
+abbrev pub written_keys : Key → List Prop → List ℕ
+written_keys key props = written_pk key.pk (below rk_name props) ++ codes "," ++ print_member (rk_name, key.rk) ++ preceded (above rk_name props)
+
+-- the body, of the digits of the tag: both keys and the tag among properties
+abbrev pub written_entity : Key → List Prop → List ℕ → List ℕ → List ℕ
+written_entity key props store n = codes "{" ++ written_keys key (below etag_name props) ++ codes ","
+    ++ print_member (etag_name, escaped store n) ++ preceded (above etag_name props) ++ codes "}"
+
+-- the bytes of the keys and of the properties with their commas
+abbrev pub texts_size : Key → List Prop → ℕ
+texts_size key props = length key.pk + length key.rk + props_size props
+
+-- the bytes of the body, whose tag has these numbers of digits
+abbrev pub entity_size : Key → List Prop → ℕ → ℕ → ℕ
+entity_size key props store n = 54 + texts_size key props + store + n

@@ -3,7 +3,7 @@ ghost use Rattle.mt_model.specs.Name.{is_plain_name};
 ghost use Rattle.mt_model.specs.Tag.{framed};
 ghost use Rattle.mt_top.specs.Bodies.{print_member};
 ghost use Rattle.mt_top.specs.Inserts.{pk_name, rk_name};
-ghost use Rattle.mt_top.specs.Replies.{created_reply, created_head, escaped, etag_name, exists_reply, unsupported_reply, IsRoomFor, HasRoom, Appends, text_of, lies_above, place_of, below, above, followed, preceded, props_size};
+ghost use Rattle.mt_top.specs.Replies.{created_reply, created_head, escaped, etag_name, exists_reply, unsupported_reply, IsRoomFor, HasRoom, Appends, text_of, lies_above, place_of, below, above, followed, preceded, props_size, texts_size, entity_size, written_pk, written_keys, written_entity};
 
 use itoa::Buffer;
 use mt_model::{Key, NoMemory, Prop, Tag, Value};
@@ -19,6 +19,9 @@ pub const UNSUPPORTED: &[u8] =
 
 /// The bytes of a reply beside its keys and properties, at most.
 const FRAME_BYTES: usize = 256;
+
+/// The bytes of a body beside the keys, the properties and the digits of the tag.
+const ENTITY_BYTES: usize = 54;
 
 /// The bytes of a member beside its name and text: four quotes, a colon and a comma.
 const MEMBER_BYTES: usize = 6;
@@ -173,14 +176,65 @@ fn props_size(props: &[Prop]) -> usize
     size
 }
 
+/// The bytes of the keys and of the properties with their commas, or the greatest number.
+fn texts_size(key: &Key, props: &[Prop]) -> usize
+    ensures { result ≡ min (2 ^ 64 - 1) (texts_size key.now props.now) }
+{
+    let keys = key.pk.as_str().len().saturating_add(key.rk.as_str().len());
+    keys.saturating_add(props_size(props))
+}
+
+/// The bytes of the body whose tag has these digits, or the greatest number.
+fn entity_size(key: &Key, props: &[Prop], store: &str, n: &str) -> usize
+    ensures { result ≡ min (2 ^ 64 - 1) (entity_size key.now props.now (length store.now) (length n.now)) }
+{
+    let digits = store.len().saturating_add(n.len());
+    texts_size(key, props).saturating_add(digits).saturating_add(ENTITY_BYTES)
+}
+
+/// Writes the partition key among properties.
+fn put_pk(room: &mut Vec<u8>, pk: &str, props: &[Prop])
+    requires { HasRoom room.old (written_pk pk.now props.now) }
+    ensures { Appends room.old (written_pk pk.now props.now) room.new }
+{
+    let (low, high) = split_below(props, "PartitionKey");
+    put_followed(room, low);
+    put_member(room, "PartitionKey", pk);
+    put_preceded(room, high);
+}
+
+/// Writes both keys among properties.
+fn put_keys(room: &mut Vec<u8>, key: &Key, props: &[Prop])
+    requires { HasRoom room.old (written_keys key.now props.now) }
+    ensures { Appends room.old (written_keys key.now props.now) room.new }
+{
+    let (low, high) = split_below(props, "RowKey");
+    put_pk(room, key.pk.as_str(), low);
+    put(room, b",");
+    put_member(room, "RowKey", key.rk.as_str());
+    put_preceded(room, high);
+}
+
+/// Writes the body: both keys and the tag of these digits among the properties.
+fn put_entity(room: &mut Vec<u8>, key: &Key, props: &[Prop], store: &str, n: &str)
+    requires { HasRoom room.old (written_entity key.now props.now store.now n.now) }
+    ensures { Appends room.old (written_entity key.now props.now store.now n.now) room.new }
+{
+    let (low, high) = split_below(props, "odata.etag");
+    put(room, b"{");
+    put_keys(room, key, low);
+    put(room, b",");
+    put_tag_member(room, store, n);
+    put_preceded(room, high);
+    put(room, b"}");
+}
+
 /// The room that the reply to a written insert needs, whatever its tag is: 256 bytes, those of both
 /// keys, and those of the properties with 6 for each. The one error is want of memory.
 pub fn room_for(alloc: Global, key: &Key, props: &[Prop]) -> Result<Vec<u8>, NoMemory>
     ensures { IfOk result (λ room. (room.items ≡ []) × IsRoomFor key.now props.now (vec_capacity room)) }
 {
-    let keys = key.pk.as_str().len().saturating_add(key.rk.as_str().len());
-    let texts = props_size(props).saturating_add(keys);
-    let Some(size) = texts.checked_add(FRAME_BYTES) else {
+    let Some(size) = texts_size(key, props).checked_add(FRAME_BYTES) else {
         return Err(NoMemory);
     };
     match Vec::with_capacity(alloc, size) {
@@ -196,5 +250,11 @@ pub fn write_created(room: &mut Vec<u8>, key: &Key, props: &[Prop], tag: Tag)
     requires names { All (λ p. is_plain_name p.name ≡ true) props.now }
     ensures { room.new.items ≡ created_reply key.now props.now tag }
 {
-    unreachable!()
+    let mut store_buffer = Buffer::new();
+    let mut n_buffer = Buffer::new();
+    let store = store_buffer.format(tag.store);
+    let n = n_buffer.format(tag.n);
+    let size = entity_size(key, props, store, n);
+    put_head(room, store, n, size);
+    put_entity(room, key, props, store, n);
 }
