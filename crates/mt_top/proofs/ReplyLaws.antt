@@ -1,5 +1,5 @@
 -- Laws of the replies.
-use Rattle.std.proofs.Common.{◌≡◌, ℕ, zero, suc, ◌+◌, ◌-◌, ◌^◌, ◌<◌, ◌≤◌, Bool, true, false, cond, not, ◌&&◌, List, [], ◌∷◌, ◌++◌, map, length, get_or, take, drop, refl, sym, ap, ◌∙◌, append_assoc, length-append, one-add, arith}
+use Rattle.std.proofs.Common.{◌≡◌, ℕ, zero, suc, ◌+◌, ◌-◌, ◌^◌, ◌<◌, ◌≤◌, Bool, true, false, cond, not, ◌&&◌, List, [], ◌∷◌, ◌++◌, map, length, get_or, take, drop, refl, sym, ap, subst, ◌∙◌, append_assoc, length-append, one-add, arith}
 use Rattle.std.specs.Prelude.{All, codes, decimal, vec_len, vec_capacity, min, sum_by}
 use Rattle.std.specs.List.{flat_map, join_with_byte, position_or_len, list_all}
 use Rattle.std.specs.Ordering.{nat_cmp, is_lt}
@@ -18,6 +18,7 @@ use Rattle.std.proofs.lemmas.List.Folds.{length-flat_map-take, list_all_at}
 use Rattle.std.proofs.lemmas.List.Sums.{sum_by-cons, sum_by-take-drop, prefix_len-le-length}
 use Rattle.std.proofs.lemmas.Bool.Decides.{nat_tests}
 use Rattle.std.proofs.lemmas.Map.Lookups.{exact_bytes}
+use Rattle.std.proofs.lemmas.Fmt.{length-decimal-le}
 use Rattle.std.proofs.lemmas.Str.{chars-IsAscii}
 use Rattle.std.proofs.lemmas.Str.Ascii.{IsAscii-cons, IsAscii-nil}
 use Rattle.mt_model.specs.declared.key.Key.{Key}
@@ -26,7 +27,7 @@ use Rattle.mt_model.specs.Name.{is_plain_name, begins_name, is_reserved}
 use Rattle.mt_top.specs.Inserts.{pk_name, rk_name}
 use Rattle.mt_model.specs.declared.value.Prop.{Prop}
 use Rattle.mt_top.specs.Bodies.{Member, print_member, print_object}
-use Rattle.mt_top.specs.Replies.{member_of, HasRoom, Appends, lies_above, place_of, below, above, followed, preceded, etag_name, escaped, escaped_tag, entity_members, entity_text, written_entity, entity_size, props_size, member_size, created_head}
+use Rattle.mt_top.specs.Replies.{member_of, HasRoom, Appends, lies_above, place_of, below, above, followed, preceded, etag_name, escaped, escaped_tag, entity_members, entity_text, written_entity, entity_size, props_size, member_size, created_head, created_reply, IsRoomFor}
 
 abbrev cmp : List ℕ → List ℕ → Ordering
 cmp = slice_cmp nat_cmp
@@ -38,6 +39,12 @@ appends_then {a} {b} {c} {s} {t} p q = record {
   len = omega (arith, length-append s t);
   capacity = omega arith;
 }
+
+pub appends_is : {a b : Vec ℕ} {s t : List ℕ} → Appends a s b → s ≡ t → Appends a t b
+appends_is {a} {b} p e = subst (λ x. Appends a x b) e p
+
+pub has_room_is : (a : Vec ℕ) {s t : List ℕ} → HasRoom a t → s ≡ t → HasRoom a s
+has_room_is a h e = subst (λ x. HasRoom a x) (sym e) h
 
 -- one of the texts that are written in a row fits
 pub item_fits : (f : Prop → List ℕ) (ps : List Prop) (i : ℕ) (p : Prop) (before room : Vec ℕ) → i < length ps
@@ -107,10 +114,10 @@ placed name text [] [] l a = refl
 placed name text [] (m ∷ more) l a = ap (λ o. by_order o ((name, text) ∷ m ∷ more) ((m.0, text) ∷ more) (m ∷ put cmp name text more)) a
 placed name text (p ∷ low) more l a =
     ap
-        (λ o.
-            by_order o ((name, text) ∷ member_of p ∷ map member_of low ++ more) ((p.name, text) ∷ map member_of low ++ more)
-            (member_of p ∷ put cmp name text (map member_of low ++ more)))
-        l.0
+    (λ o.
+    by_order o ((name, text) ∷ member_of p ∷ map member_of low ++ more) ((p.name, text) ∷ map member_of low ++ more)
+    (member_of p ∷ put cmp name text (map member_of low ++ more)))
+    l.0
     ∙ ap (λ r. member_of p ∷ r) (placed name text low more l.1 a)
 
 below_at : (name : List ℕ) (p : Prop) (ps : List Prop) (o : Ordering) → cmp name p.name ≡ o → (o ≡ Equal → ⊥)
@@ -141,8 +148,8 @@ put_among : (name text : List ℕ) (ps : List Prop) (more : List Member) → All
     ≡ map member_of (below name ps) ++ (name, text) ∷ (map member_of (above name ps) ++ more)
 put_among name text ps more apart up =
     ap (λ r. put cmp name text (r ++ more))
-        (ap (λ r. map member_of r) (sym (take-append-drop (place_of name ps) ps))
-        ∙ map-append member_of (below name ps) (above name ps))
+    (ap (λ r. map member_of r) (sym (take-append-drop (place_of name ps) ps))
+    ∙ map-append member_of (below name ps) (above name ps))
     ∙ ap (λ r. put cmp name text r) (append_assoc (map member_of (below name ps)) (map member_of (above name ps)) more)
     ∙ placed name text (below name ps) (map member_of (above name ps) ++ more) (all_below name ps apart) (starts name ps more up)
 
@@ -163,7 +170,7 @@ no_second a true c d e = cc
 no_second true false c d e = refl
 no_second false false c d e = refl
 
-abbrev IsPlain : Prop → Type 0
+abbrev pub IsPlain : Prop → Type 0
 IsPlain p = is_plain_name p.name ≡ true
 
 pk_not_plain : is_plain_name pk_name ≡ false
@@ -198,12 +205,13 @@ etag_not_plain =
 
 all_apart : (name : List ℕ) → is_plain_name name ≡ false → (ps : List Prop) → All IsPlain ps → AllApart name ps
 all_apart name refused [] h = tt
-all_apart name refused (p ∷ ps) h =
-    (λ e.
-        let same : is_plain_name name ≡ is_plain_name p.name = ap is_plain_name (exact_bytes name p.name e) in
-        let plain : is_plain_name p.name ≡ true = h 0 p (omega arith) in
-        cc,
-    all_apart name refused ps (λ k d inside. h (suc k) d (omega arith)))
+all_apart name refused (p ∷ ps) h = (
+  λ e.
+      let same : is_plain_name name ≡ is_plain_name p.name = ap is_plain_name (exact_bytes name p.name e) in
+      let plain : is_plain_name p.name ≡ true = h 0 p (omega arith) in
+      cc,
+  all_apart name refused ps (λ k d inside. h (suc k) d (omega arith)),
+)
 
 apart_take : (name : List ℕ) (n : ℕ) (ps : List Prop) → AllApart name ps → AllApart name (take n ps)
 apart_take name zero ps h = tt
@@ -214,9 +222,9 @@ apart_take name (suc n) (p ∷ ps) h = (h.0, apart_take name n ps h.1)
 members_are : (key : Key) (props : List Prop) (tag : Tag) → All IsPlain props
     → entity_members key props tag
     ≡ map member_of (below pk_name (below rk_name (below etag_name props))) ++ (pk_name, key.pk)
-        ∷ (map member_of (above pk_name (below rk_name (below etag_name props))) ++ (rk_name, key.rk)
-            ∷ (map member_of (above rk_name (below etag_name props)) ++ (etag_name, escaped_tag tag)
-                ∷ map member_of (above etag_name props)))
+    ∷ (map member_of (above pk_name (below rk_name (below etag_name props))) ++ (rk_name, key.rk)
+    ∷ (map member_of (above rk_name (below etag_name props)) ++ (etag_name, escaped_tag tag)
+    ∷ map member_of (above etag_name props)))
 members_are key props tag plain =
     let p1 = below etag_name props in
     let p2 = below rk_name p1 in
@@ -224,7 +232,7 @@ members_are key props tag plain =
     let rk_apart = apart_take rk_name (place_of etag_name props) props (all_apart rk_name rk_not_plain props plain) in
     let pk_apart = apart_take pk_name (place_of rk_name p1) p1 (apart_take pk_name (place_of etag_name props) props (all_apart pk_name pk_not_plain props plain)) in
     ap (λ r. put cmp pk_name key.pk (put cmp rk_name key.rk r))
-        (put_last etag_name (escaped_tag tag) props (all_apart etag_name etag_not_plain props plain))
+    (put_last etag_name (escaped_tag tag) props (all_apart etag_name etag_not_plain props plain))
     ∙ ap (λ r. put cmp pk_name key.pk r) (put_among rk_name key.rk p1 last rk_apart refl)
     ∙ put_among pk_name key.pk p2 ((rk_name, key.rk) ∷ (map member_of (above rk_name p1) ++ last)) pk_apart refl
 
@@ -239,9 +247,9 @@ tail_is : (b : List Prop) (r : Member) (c : List Prop) (t : Member) (d : List Pr
 tail_is b r c t d =
     tail_of_props b (r ∷ (map member_of c ++ t ∷ map member_of d))
     ∙ ap (λ x. preceded b ++ (44 ∷ (print_member r ++ x)))
-        (tail_of_props c (t ∷ map member_of d)
-        ∙ ap (λ x. preceded c ++ (44 ∷ (print_member t ++ x)))
-            (ap tail_text (sym (append-nil (map member_of d))) ∙ tail_of_props d [] ∙ append-nil (preceded d)))
+    (tail_of_props c (t ∷ map member_of d)
+    ∙ ap (λ x. preceded c ++ (44 ∷ (print_member t ++ x)))
+    (ap tail_text (sym (append-nil (map member_of d))) ∙ tail_of_props d [] ∙ append-nil (preceded d)))
 
 -- what is written is the body
 pub written_is : (key : Key) (props : List Prop) (tag : Tag) → All IsPlain props
@@ -258,8 +266,8 @@ written_is key props tag plain =
     sym
     (ap print_object (members_are key props tag plain)
     ∙ ap (λ x. codes "{" ++ x ++ codes "}")
-        (joined a (pk_name, key.pk) (map member_of b ++ r ∷ (map member_of c ++ t ∷ map member_of d))
-        ∙ ap (λ x. followed a ++ (print_member (pk_name, key.pk) ++ x)) (tail_is b r c t d))
+    (joined a (pk_name, key.pk) (map member_of b ++ r ∷ (map member_of c ++ t ∷ map member_of d))
+    ∙ ap (λ x. followed a ++ (print_member (pk_name, key.pk) ++ x)) (tail_is b r c t d))
     ∙ in_a_row (followed a) (print_member (pk_name, key.pk)) (preceded b) (print_member r) (preceded c) (print_member t) (preceded d))
 
 member_len : (m : Member) → length (print_member m) ≡ length m.0 + length m.1 + 5
@@ -292,12 +300,22 @@ written_len key props store n =
     let p1 = below etag_name props in
     let p2 = below rk_name p1 in
     let row =
-        row_len (followed (below pk_name p2)) (print_member (pk_name, key.pk)) (preceded (above pk_name p2)) (print_member (rk_name, key.rk))
-        (preceded (above rk_name p1)) (print_member (etag_name, escaped store n)) (preceded (above etag_name props)) in
-    omega
-    (arith, row, member_len (pk_name, key.pk), member_len (rk_name, key.rk), tag_len store n, followed_len (below pk_name p2),
-    preceded_len (above pk_name p2), preceded_len (above rk_name p1), preceded_len (above etag_name props), parts_size etag_name props,
-    parts_size rk_name p1, parts_size pk_name p2)
+    row_len (followed (below pk_name p2)) (print_member (pk_name, key.pk)) (preceded (above pk_name p2)) (print_member (rk_name, key.rk))
+    (preceded (above rk_name p1)) (print_member (etag_name, escaped store n)) (preceded (above etag_name props)) in
+    omega (
+      arith,
+      row,
+      member_len (pk_name, key.pk),
+      member_len (rk_name, key.rk),
+      tag_len store n,
+      followed_len (below pk_name p2),
+      preceded_len (above pk_name p2),
+      preceded_len (above rk_name p1),
+      preceded_len (above etag_name props),
+      parts_size etag_name props,
+      parts_size rk_name p1,
+      parts_size pk_name p2,
+    )
 
 pub head_len : (store n : List ℕ) (size : ℕ) → length (created_head store n size) ≡ 87 + length store + length n + length (decimal size)
 head_len store n size = simp length-append (omega arith)
@@ -319,3 +337,43 @@ place_absent p ps e =
     let out = no_place (nat_lt (position_or_len p ps) (length ps)) (position_or_len p ps) e in
     let within = prefix_len-le-length (λ x. not (p x)) ps in
     grind (arith, nat_tests, out, within)
+
+-- the bytes that the reply takes
+room_len : (key : Key) (props : List Prop) (store n : List ℕ) (size : ℕ) → length store ≤ 10 → length n ≤ 20 → size < 2 ^ 64
+    → length (created_head store n size ++ written_entity key props store n) ≤ 256 + length key.pk + length key.rk + props_size props
+room_len key props store n size s d small =
+    let big : size < 10 ^ 20 = omega arith in
+    let digits = length-decimal-le 20 size (lit< tt) big small in
+    omega (
+      arith,
+      length-append (created_head store n size) (written_entity key props store n),
+      head_len store n size,
+      written_len key props store n,
+      digits,
+    )
+
+pub reply_fits : (room : Vec ℕ) (key : Key) (props : List Prop) (store n : List ℕ) (size : ℕ) → room.items ≡ []
+    → IsRoomFor key props (vec_capacity room) → length store ≤ 10 → length n ≤ 20 → size < 2 ^ 64
+    → HasRoom room (created_head store n size ++ written_entity key props store n)
+reply_fits room key props store n size empty fits s d small =
+    let none : vec_len room ≡ 0 = omega (arith, room.ok.0, ap length empty) in
+    let taken = room_len key props store n size s d small in
+    omega arith
+
+-- the number in the head is the length of the body
+pub size_is : (room : Vec ℕ) (key : Key) (props : List Prop) (store n : List ℕ) (size : ℕ) → IsRoomFor key props (vec_capacity room)
+    → length store ≤ 10 → length n ≤ 20 → size ≡ min (2 ^ 64 - 1) (entity_size key props (length store) (length n))
+    → size ≡ length (written_entity key props store n)
+size_is room key props store n size fits s d e =
+    let held : vec_capacity room < 2 ^ 63 = omega (arith, room.small) in
+    omega (arith, written_len key props store n)
+
+pub reply_is : (key : Key) (props : List Prop) (tag : Tag) (size : ℕ) → All IsPlain props
+    → size ≡ length (written_entity key props (decimal tag.store) (decimal tag.n))
+    → created_head (decimal tag.store) (decimal tag.n) size ++ written_entity key props (decimal tag.store) (decimal tag.n)
+    ≡ created_reply key props tag
+reply_is key props tag size plain e =
+    let is = written_is key props tag plain in
+    let same = e ∙ ap length is in
+    ap (λ x. created_head (decimal tag.store) (decimal tag.n) x ++ written_entity key props (decimal tag.store) (decimal tag.n)) same
+    ∙ ap (λ x. created_head (decimal tag.store) (decimal tag.n) (length (entity_text key props tag)) ++ x) is

@@ -189,7 +189,9 @@ fn entity_size(key: &Key, props: &[Prop], store: &str, n: &str) -> usize
     ensures { result ≡ min (2 ^ 64 - 1) (entity_size key.now props.now (length store.now) (length n.now)) }
 {
     let digits = store.len().saturating_add(n.len());
-    texts_size(key, props).saturating_add(digits).saturating_add(ENTITY_BYTES)
+    texts_size(key, props)
+        .saturating_add(digits)
+        .saturating_add(ENTITY_BYTES)
 }
 
 /// Writes the partition key among properties.

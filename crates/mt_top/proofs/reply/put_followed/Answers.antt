@@ -8,10 +8,10 @@ use Rattle.mt_top.proofs.reply.put_followed.Goals as goal
 pub put_member-requires : goal.put_member-requires
 put_member-requires c =
     rw
-        (c.as_str.ensures.value, c.text_of.ensures)
-        (room_first c.loop-prop.room (print_member (member_of c.prop-item.result)) (codes ",")
-        (item_fits (λ p. print_member (member_of p) ++ codes ",") c.args.props.now c.loop-prop.prop-index c.prop-item.result
-        c.args.room.now c.loop-prop.room c.loop-prop-test.true c.requires c.loop-prop.invariant c.prop-item.is))
+    (c.as_str.ensures.value, c.text_of.ensures)
+    (room_first c.loop-prop.room (print_member (member_of c.prop-item.result)) (codes ",")
+    (item_fits (λ p. print_member (member_of p) ++ codes ",") c.args.props.now c.loop-prop.prop-index c.prop-item.result
+    c.args.room.now c.loop-prop.room c.loop-prop-test.true c.requires c.loop-prop.invariant c.prop-item.is))
 
 pub put-requires : goal.put-requires
 put-requires c =

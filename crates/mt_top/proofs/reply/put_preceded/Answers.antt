@@ -13,8 +13,8 @@ put-requires c =
 pub put_member-requires : goal.put_member-requires
 put_member-requires c =
     rw
-        (c.as_str.ensures.value, c.text_of.ensures)
-        (room_next c.loop-prop.room c.put.new.room (codes ",") (print_member (member_of c.prop-item.result))
-        (item_fits (λ p. codes "," ++ print_member (member_of p)) c.args.props.now c.loop-prop.prop-index c.prop-item.result
-        c.args.room.now c.loop-prop.room c.loop-prop-test.true c.requires c.loop-prop.invariant c.prop-item.is)
-        c.put.ensures)
+    (c.as_str.ensures.value, c.text_of.ensures)
+    (room_next c.loop-prop.room c.put.new.room (codes ",") (print_member (member_of c.prop-item.result))
+    (item_fits (λ p. codes "," ++ print_member (member_of p)) c.args.props.now c.loop-prop.prop-index c.prop-item.result
+    c.args.room.now c.loop-prop.room c.loop-prop-test.true c.requires c.loop-prop.invariant c.prop-item.is)
+    c.put.ensures)
