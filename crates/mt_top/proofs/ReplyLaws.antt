@@ -1,6 +1,6 @@
 -- Laws of the replies.
 use Rattle.std.proofs.Common.{◌≡◌, ℕ, zero, suc, ◌+◌, ◌-◌, ◌^◌, ◌<◌, ◌≤◌, Bool, true, false, cond, not, ◌&&◌, List, [], ◌∷◌, ◌++◌, map, length, get_or, take, drop, refl, sym, ap, subst, ◌∙◌, append_assoc, length-append, one-add, arith}
-use Rattle.std.specs.Prelude.{All, codes, decimal, vec_len, vec_capacity, min, sum_by}
+use Rattle.std.specs.Prelude.{All, codes, decimal, vec_len, vec_capacity, min}
 use Rattle.std.specs.List.{flat_map, join_with_byte, position_or_len, list_all}
 use Rattle.std.specs.Ordering.{nat_cmp, is_lt}
 use Rattle.std.specs.Global.{Vec}
@@ -12,7 +12,7 @@ use Rattle.std.specs.Prelude.{nat_le, nat_lt, position}
 use Rattle.std.specs.Str.{chars, IsAscii}
 use Rattle.unicode_ident.specs.Ident.{is_xid_continue}
 use Rattle.unicode_ident.proofs.IdentLemmas.{is_xid_continue-ascii}
-use Rattle.std.proofs.Common.{◌||◌, ◌==◌, lit<, Some, None}
+use Rattle.std.proofs.Common.{lit<, Some, None}
 use Rattle.std.proofs.lemmas.List.{append-nil, map-append, take-append-drop}
 use Rattle.std.proofs.lemmas.List.Folds.{length-flat_map-take, list_all_at}
 use Rattle.std.proofs.lemmas.List.Sums.{sum_by-cons, sum_by-take-drop, prefix_len-le-length}
@@ -27,7 +27,7 @@ use Rattle.mt_model.specs.Name.{is_plain_name, begins_name, is_reserved}
 use Rattle.mt_top.specs.Inserts.{pk_name, rk_name}
 use Rattle.mt_model.specs.declared.value.Prop.{Prop}
 use Rattle.mt_top.specs.Bodies.{Member, print_member, print_object}
-use Rattle.mt_top.specs.Replies.{member_of, HasRoom, Appends, lies_above, place_of, below, above, followed, preceded, etag_name, escaped, escaped_tag, entity_members, entity_text, written_entity, entity_size, props_size, member_size, created_head, created_reply, IsRoomFor}
+use Rattle.mt_top.specs.Replies.{member_of, HasRoom, Appends, place_of, below, above, followed, preceded, etag_name, escaped, escaped_tag, entity_members, entity_text, written_entity, entity_size, props_size, member_size, created_head, created_reply, IsRoomFor}
 
 abbrev cmp : List ℕ → List ℕ → Ordering
 cmp = slice_cmp nat_cmp

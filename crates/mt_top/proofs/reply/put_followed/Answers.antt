@@ -1,5 +1,4 @@
-use Rattle.std.proofs.Common.{arith, length-append}
-use Rattle.std.specs.Prelude.{ℕ, codes, ◌++◌}
+use Rattle.std.specs.Prelude.{codes, ◌++◌}
 use Rattle.mt_top.specs.Bodies.{print_member}
 use Rattle.mt_top.specs.Replies.{member_of}
 use Rattle.mt_top.proofs.ReplyLaws.{item_fits, room_first, room_next}

@@ -1,7 +1,7 @@
 use Rattle.std.proofs.Common.{◌∙◌, ap}
 use Rattle.mt_top.specs.Bodies.{print_member}
 use Rattle.mt_top.specs.Inserts.{rk_name}
-use Rattle.mt_top.specs.Replies.{below, above, preceded, written_pk}
+use Rattle.mt_top.specs.Replies.{preceded, written_pk}
 use Rattle.mt_top.proofs.ReplyLaws.{appends_then, appends_is}
 use Rattle.mt_top.proofs.reply.put_keys.Goals as goal
 

@@ -1,5 +1,5 @@
-use Rattle.std.proofs.Common.{◌≡◌, ◌≤◌, ◌++◌, ◌∙◌, List, ℕ, ap, length, decimal, subst, sym, arith}
-use Rattle.mt_top.specs.Replies.{created_head, created_reply, written_entity}
+use Rattle.std.proofs.Common.{◌≡◌, ◌++◌, ◌∙◌, ap, length, decimal, arith}
+use Rattle.mt_top.specs.Replies.{created_head, written_entity}
 use Rattle.mt_top.proofs.ReplyLaws.{appends_then, room_first, room_next, reply_fits, size_is, reply_is}
 use Rattle.mt_top.proofs.reply.write_created.Goals as goal
 
