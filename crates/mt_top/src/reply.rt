@@ -9,11 +9,16 @@ use itoa::Buffer;
 use mt_model::{Key, NoMemory, Prop, Tag, Value};
 use std::alloc::Global;
 
-/// The reply to an insert whose row is there.
+#[cfg(test)]
+mod tests;
+
+/// The reply to an insert whose row is there: a response of HTTP/1.1 (RFC 9112) with an error object
+/// of OData's JSON format.
 pub const EXISTS: &[u8] =
     b"HTTP/1.1 409 Conflict\r\nContent-Type: application/json\r\nContent-Length: 120\r\n\r\n{\"odata.error\":{\"code\":\"EntityAlreadyExists\",\"message\":{\"lang\":\"en-US\",\"value\":\"The specified entity already exists.\"}}}";
 
-/// The reply to what is no plain insert.
+/// The reply to what is no plain insert, after which the connection ends: a response of HTTP/1.1
+/// (RFC 9112) with an error object of OData's JSON format.
 pub const UNSUPPORTED: &[u8] =
     b"HTTP/1.1 501 Not Implemented\r\nContent-Type: application/json\r\nContent-Length: 108\r\nConnection: close\r\n\r\n{\"odata.error\":{\"code\":\"NotImplemented\",\"message\":{\"lang\":\"en-US\",\"value\":\"The request is not supported.\"}}}";
 
@@ -232,7 +237,8 @@ fn put_entity(room: &mut Vec<u8>, key: &Key, props: &[Prop], store: &str, n: &st
 }
 
 /// The room that the reply to a written insert needs, whatever its tag is: 256 bytes, those of both
-/// keys, and those of the properties with 6 for each. The one error is want of memory.
+/// keys, and those of the properties with 6 for each; it is handed out empty. The one error is want
+/// of memory.
 pub fn room_for(alloc: Global, key: &Key, props: &[Prop]) -> Result<Vec<u8>, NoMemory>
     ensures { IfOk result (λ room. (room.items ≡ []) × IsRoomFor key.now props.now (vec_capacity room)) }
 {
@@ -245,7 +251,10 @@ pub fn room_for(alloc: Global, key: &Key, props: &[Prop]) -> Result<Vec<u8>, NoM
     }
 }
 
-/// Writes the reply to a written insert into the room that was taken for it.
+/// Writes the reply to a written insert into the empty room that was taken for it: a response of
+/// HTTP/1.1 (RFC 9112) whose body is a JSON object (RFC 8259) of the properties, both keys and the
+/// tag, in byte order of names. A property whose value is no text shows an empty one. It takes no
+/// memory, and cannot fail.
 pub fn write_created(room: &mut Vec<u8>, key: &Key, props: &[Prop], tag: Tag)
     requires empty { room.old.items ≡ [] }
     requires room { IsRoomFor key.now props.now (vec_capacity room.old) }
