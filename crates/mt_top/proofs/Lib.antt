@@ -9,6 +9,7 @@ mod InsertLaws
 mod LineLaws
 mod NameLaws
 mod ObjectLaws
+mod ReplyLaws
 mod RunLaws
 mod RunningLaws
 mod SectionLaws
