@@ -1,5 +1,5 @@
 //! The names of tables, by the naming rules of the Azure Table service.
-ghost use Rattle.std.specs.Prelude.{◌≡◌, ◌||◌, length, nat_le};
+ghost use Rattle.std.specs.Prelude.{◌≡◌, ◌||◌};
 ghost use Rattle.std.specs.List.{list_all};
 ghost use Rattle.mt_model.specs.TableName.{is_table_name, is_same_table, is_letter, is_digit, begins_with_letter};
 
