@@ -1,11 +1,11 @@
 -- What the puts of a call do to the rows, key by key.
 use Rattle.std.proofs.Common.{◌≡◌, ◌≢◌, ℕ, suc, ◌+◌, ◌≤◌, ◌<◌, Bool, true, false, cond, ◌&&◌, ◌||◌, List, [], ◌∷◌, length, refl, sym, ap, ◌∙◌, arith, bytes_eq, IsTrue, Some, None, Option, if◌then◌else◌}
-use Rattle.std.specs.List.{list_any}
+use Rattle.std.specs.List.{list_any, IsDistinct}
 use Rattle.mt_chain.specs.declared.row.Stored.{Stored}
 use Rattle.mt_chain.specs.declared.row.Put.{Put}
 use Rattle.mt_chain.specs.declared.row.Put.TheVariants.{Check, Insert, Replace, Delete}
 use Rattle.mt_chain.specs.Rows.{Rows, are_rising, row_at}
-use Rattle.mt_chain.specs.Puts.{row_key, holds, unmet_from, next_tag, counter_after, rows_after, all_rows_after, all_counter_after, tags_of}
+use Rattle.mt_chain.specs.Puts.{CanApply, row_key, holds, unmet_from, next_tag, counter_after, rows_after, all_rows_after, all_counter_after, tags_of}
 use Rattle.mt_chain.proofs.KeyLaws.{text_same}
 use Rattle.mt_chain.proofs.RowLaws.{differs_in_pk, row_at-with_row, with_row_elsewhere, rising_with_row, row_at-without_row, without_row_elsewhere, rising_without_row}
 
@@ -136,3 +136,13 @@ unmet_in_range i rows pk (put ∷ puts) at h =
       | true ↦ λ h. (let r = unmet_in_range (i + 1) rows pk puts at h in (omega (arith, r.0), omega (arith, r.1)))
       | false ↦ λ h. (let e = some_is i at h in (omega (arith, e), omega (arith, e)))
     ] h
+
+-- ---- what may be asked in one call
+
+pub can_apply_one : (put : Put) → CanApply (put ∷ [])
+unfolding IsDistinct
+can_apply_one put = record { some = omega arith; few = omega arith; apart = (tt, tt) }
+
+pub can_apply_two : (first second : Put) → bytes_eq (row_key first) (row_key second) ≡ false → CanApply (first ∷ second ∷ [])
+unfolding IsDistinct
+can_apply_two first second apart = record { some = omega arith; few = omega arith; apart = ((apart, tt), (tt, tt)) }

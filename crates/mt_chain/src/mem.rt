@@ -8,3 +8,6 @@ mod lookup;
 
 pub use depot::MemDepot;
 pub use keeper::MemKeeper;
+
+#[cfg(test)]
+mod tests;

@@ -8,7 +8,7 @@ use crate::row::{Put, Stored};
 use mt_model::{Tag, Text};
 
 /// The row key that a put names.
-fn row_key(put: &Put) -> &Text
+pub fn row_key(put: &Put) -> &Text
     ensures { result.now ≡ row_key put.now }
 {
     match put {
