@@ -1,0 +1,10 @@
+pub mod KeyLaws
+pub mod RowLaws
+pub mod PutLaws
+pub mod JudgeLaws
+mod OrderLaws
+mod SearchLaws
+mod ChangeLaws
+mod AnswerLaws
+mod TagLaws
+mod MemoryLaws

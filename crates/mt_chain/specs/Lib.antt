@@ -3,3 +3,7 @@ pub mod Puts
 pub mod StoreCall
 pub mod Store
 pub mod Shelf
+pub mod Places
+pub mod Memory
+pub mod Changes
+pub mod MemoryShelf

@@ -1,5 +1,5 @@
 -- Conditional changes of one partition, and what they do to the rows.
-use Rattle.std.specs.Prelude.{◌≡◌, ℕ, ◌+◌, ◌<◌, ◌≤◌, ◌==◌, Bool, true, false, ◌&&◌, bytes_eq, List, [], ◌∷◌, map, length, Option, None, Some, is_none, if◌then◌else◌}
+use Rattle.std.specs.Prelude.{ℕ, ◌+◌, ◌<◌, ◌≤◌, ◌==◌, Bool, false, ◌&&◌, bytes_eq, List, [], ◌∷◌, map, length, Option, None, Some, is_none, if◌then◌else◌}
 use Rattle.std.specs.List.{IsDistinct}
 use Rattle.mt_model.specs.declared.tag.Tag.{Tag}
 use Rattle.mt_chain.specs.declared.row.Stored.{Stored}

@@ -1,5 +1,5 @@
 -- The rows of a store: a list of entries in the order of their keys.
-use Rattle.std.specs.Prelude.{ℕ, Bool, true, false, not, ◌&&◌, nat_lt, bytes_eq, List, [], ◌∷◌, map, filter, take, length, Option, None, Some, option_map}
+use Rattle.std.specs.Prelude.{ℕ, Bool, true, false, not, ◌&&◌, nat_lt, bytes_eq, List, map, filter, take, length, Option, None, Some, option_map}
 use Rattle.std.specs.List.{list_any, filter_map}
 use Rattle.std.specs.Ordering.{nat_cmp, is_lt, is_le, eq_by_cmp}
 use Rattle.std.specs.Cmp.Lexicographic.{slice_cmp}

@@ -1,5 +1,5 @@
 -- The meaning of the four store calls, over the plain contents of a store.
-use Rattle.std.specs.Prelude.{◌≡◌, ℕ, ◌≤◌, Bool, true, false, not, ◌&&◌, bytes_eq, IsTrue, IfSome, IfNone, MatchOption, All, Contains, List, [], ◌∷◌, length, Option, None, Some, if◌then◌else◌}
+use Rattle.std.specs.Prelude.{◌≡◌, ℕ, ◌≤◌, Bool, true, false, not, ◌&&◌, IsTrue, IfSome, All, Contains, List, [], length, Option, None, Some, if◌then◌else◌}
 use Rattle.std.specs.List.Sorted.{IsStrictlySortedBy}
 use Rattle.std.specs.Ordering.{nat_cmp, is_le}
 use Rattle.std.specs.Cmp.Lexicographic.{slice_cmp}
@@ -10,7 +10,6 @@ use Rattle.mt_chain.specs.declared.query.PkFrom.{PkFrom}
 use Rattle.mt_chain.specs.declared.query.Range.{Range}
 use Rattle.mt_chain.specs.declared.query.RangeQuery.{RangeQuery}
 use Rattle.mt_chain.specs.declared.query.Found.{Found}
-use Rattle.mt_chain.specs.declared.query.Next.{Next}
 use Rattle.mt_chain.specs.Rows.{Rows, are_rising, named_rows, rows_within, is_within, limited, is_beyond, has_partition, is_past}
 use Rattle.mt_chain.specs.Puts.{unmet_from, all_rows_after, all_counter_after, tags_of}
 

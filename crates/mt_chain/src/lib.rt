@@ -3,10 +3,12 @@
 
 mod depot;
 mod keeper;
+mod mem;
 mod query;
 mod row;
 
 pub use depot::{Depot, DepotFault};
 pub use keeper::{KeepFault, Keeper};
+pub use mem::{MemDepot, MemKeeper};
 pub use query::{Found, Next, PkFrom, Range, RangeQuery, RkFrom};
 pub use row::{Put, Puts, Stored, StoredRow, StoredRows, Tags};

@@ -63,6 +63,13 @@ impl Puts {
     {
         self.items.as_slice()
     }
+
+    /// The changes in order, without taking memory.
+    pub fn into_items(self) -> Vec<Put>
+        ensures { result.items ≡ self }
+    {
+        self.items
+    }
 }
 
 /// Tags in order.

@@ -1,5 +1,5 @@
 -- Hidden properties change no limit, and without them the names still rise.
-use Rattle.std.proofs.Common.{◌≡◌, ℕ, ◌+◌, ◌≤◌, Bool, true, false, not, cond, ◌||◌, List, [], ◌∷◌, refl, sym, subst, arith, Result, Ok, Err, OnOk, OnErr}
+use Rattle.std.proofs.Common.{◌≡◌, ℕ, ◌+◌, ◌≤◌, Bool, true, false, not, cond, List, [], ◌∷◌, refl, sym, subst, arith, Result, Ok, Err, OnOk, OnErr}
 use Rattle.std.specs.Prelude.{filter, sum_by}
 use Rattle.std.specs.Ordering.{nat_cmp}
 use Rattle.std.specs.declared.cmp.Ordering.{Ordering}
@@ -14,7 +14,7 @@ use Rattle.mt_model.specs.declared.value.Prop.{Prop}
 use Rattle.mt_model.specs.declared.name.Hidden.{Hidden}
 use Rattle.mt_model.specs.declared.name.Hidden.TheVariants.{Kind, Tag}
 use Rattle.mt_model.specs.Name.{is_hidden}
-use Rattle.mt_model.specs.Props.{IsProps, names, RisingNames, is_visible, too_large_at, visible_prop_size, hidden_prop}
+use Rattle.mt_model.specs.Props.{IsProps, names, is_visible, too_large_at, visible_prop_size, hidden_prop}
 use Rattle.mt_model.specs.Merge.{put_by, put_prop}
 use Rattle.mt_model.proofs.Merging.{RisingNames-put, none-put, or_false}
 
@@ -29,7 +29,8 @@ sum-put : (f : Prop → ℕ) (p : Prop) (qs : List Prop) → sum_by f (put_prop 
 sum-put f p [] = omega (arith, sum_by-cons f p [])
 sum-put f p (q ∷ qs) = sum-put_by f (slice_cmp nat_cmp p.name q.name) p q qs (put_prop p qs) (sum-put f p qs)
 
-unseen : (which : Hidden) (text : List ℕ) → is_visible (hidden_prop which text) ≡ false
+-- no client sees it
+pub unseen : (which : Hidden) (text : List ℕ) → is_visible (hidden_prop which text) ≡ false
 unseen Kind text = refl
 unseen Tag text = refl
 

@@ -1,5 +1,5 @@
 -- What a binary search finds among rising names, and what stands at that place.
-use Rattle.std.proofs.Common.{◌≡◌, ℕ, zero, suc, ◌<◌, ◌≤◌, Bool, true, false, List, [], ◌∷◌, length, get_or, set, refl, sym, ap, ◌∙◌, arith, Some, None, Result, Ok, Err, IfOk, IfErr}
+use Rattle.std.proofs.Common.{◌≡◌, ℕ, zero, suc, ◌<◌, ◌≤◌, true, false, List, [], ◌∷◌, length, get_or, set, refl, sym, ap, ◌∙◌, arith, Some, None, Result, Ok, Err, IfOk, IfErr}
 use Rattle.std.specs.Prelude.{bytes_eq, insert}
 use Rattle.std.specs.Ordering.{nat_cmp, is_eq, ordering_reverse, ordering_index}
 use Rattle.std.specs.declared.cmp.Ordering.{Ordering}
@@ -7,16 +7,17 @@ use Rattle.std.specs.declared.cmp.Ordering.TheVariants.{Less, Equal, Greater}
 use Rattle.std.specs.List.{AllByRecursion}
 use Rattle.std.specs.List.Sorted.{IsStrictlySortedBy, IsNonDecreasingBy, IsSearchInRange, IsBinarySearchResult}
 use Rattle.std.specs.Cmp.Lexicographic.{slice_cmp, nat_list_cmp_total, texts_ties}
+use Rattle.std.proofs.lemmas.Slice.Eq.{bytes_eq-Decides}
 use Rattle.mt_model.specs.declared.value.Prop.{Prop}
 use Rattle.mt_model.specs.Props.{names, RisingNames, value_at}
 use Rattle.mt_model.specs.Merge.{put_prop}
 use Rattle.mt_model.specs.Place.{StandsAt, IsGapFor}
 
-abbrev cmp : List ℕ → List ℕ → Ordering
+abbrev pub cmp : List ℕ → List ℕ → Ordering
 cmp = slice_cmp nat_cmp
 
 -- a comparison turned round
-turned : (x y : List ℕ) (o : Ordering) → cmp x y ≡ o → cmp y x ≡ ordering_reverse o
+pub turned : (x y : List ℕ) (o : Ordering) → cmp x y ≡ o → cmp y x ≡ ordering_reverse o
 turned x y o e = nat_list_cmp_total.antisymm y x ∙ ap ordering_reverse e
 
 index_le : (o r : Ordering) → (o ≡ Equal → r ≡ Greater) → (o ≡ Greater → r ≡ Greater) → ordering_index o ≤ ordering_index r
@@ -74,8 +75,12 @@ put_gap p (q ∷ qs) (suc at) h =
     rw (turned q.name p.name Less (h.1.0 0 q (omega arith) (omega arith))) (ap (λ (l : List Prop). q ∷ l) (put_gap p qs at later))
 
 -- two names that do not compare as equal are not equal
-apart : (x y : List ℕ) (o : Ordering) → cmp x y ≡ o → is_eq o ≡ false → bytes_eq x y ≡ false
+pub apart : (x y : List ℕ) (o : Ordering) → cmp x y ≡ o → is_eq o ≡ false → bytes_eq x y ≡ false
 apart x y o e differs = texts_ties x y ∙ ap is_eq e ∙ differs
+
+-- two names that compare as equal are equal
+pub same_name : (x y : List ℕ) → cmp x y ≡ Equal → x ≡ y
+same_name x y e = (bytes_eq-Decides x y).0 (texts_ties x y ∙ ap is_eq e)
 
 pub value_found : (n : List ℕ) (ps : List Prop) (at : ℕ) (d : Prop) → RisingNames ps → StandsAt ps n at → value_at ps n ≡ Some (get_or ps at d).value
 unfolding IsStrictlySortedBy

@@ -1,5 +1,5 @@
 -- Lists of rows whose keys rise.
-use Rattle.std.proofs.Common.{◌≡◌, List, [], sym, subst, refl}
+use Rattle.std.proofs.Common.{◌≡◌, List, [], sym, subst}
 use Rattle.std.specs.List.Sorted.{IsStrictlySortedBy}
 use Rattle.mt_model.specs.declared.entity.Entity.{Entity}
 use Rattle.mt_model.specs.Entities.{RisingKeys}

@@ -1,5 +1,5 @@
 //! Rows as clients see them, with what a store adds.
-ghost use Rattle.std.specs.Prelude.{◌≡◌, IfOk};
+ghost use Rattle.std.specs.Prelude.{◌≡◌, IfOk, IsTrue, ◌↔◌};
 ghost use Rattle.mt_model.specs.Entities.{RisingKeys};
 
 use crate::key::Key;
@@ -26,6 +26,13 @@ impl Entity {
         let props = self.props.copy(alloc)?;
         let tag = self.tag;
         Ok(Entity { key, props, tag })
+    }
+
+    /// Whether the two rows are equal.
+    pub fn same(&self, other: &Entity) -> bool
+        ensures { IsTrue result ↔ (self.now ≡ other.now) }
+    {
+        self == other
     }
 }
 

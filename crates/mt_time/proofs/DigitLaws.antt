@@ -1,5 +1,5 @@
 -- Numerals of a fixed length and the numbers that digits write.
-use Rattle.std.proofs.Common.{◌≡◌, ℕ, zero, suc, ◌+◌, ◌-◌, ◌*◌, ◌/◌, ◌%◌, ◌^◌, ◌<◌, ◌≤◌, List, [], ◌∷◌, ◌++◌, length, take, drop, get_or, replicate, refl, sym, ap, ◌∙◌, arith, subst, length-append, append_assoc, length-take, pow-suc}
+use Rattle.std.proofs.Common.{◌≡◌, ℕ, zero, suc, ◌+◌, ◌-◌, ◌*◌, ◌/◌, ◌%◌, ◌^◌, ◌<◌, ◌≤◌, List, [], ◌∷◌, ◌++◌, length, take, get_or, refl, sym, ap, ◌∙◌, arith, subst, length-append, append_assoc, length-take, pow-suc}
 use Rattle.std.specs.Str.Parse.{AllDigits, digits_value}
 use Rattle.std.specs.Char.{digit_value}
 use Rattle.std.specs.Int.{IsInRange}
@@ -9,7 +9,7 @@ use Rattle.std.proofs.Math.Nat.{pow-le-pow_right}
 use Rattle.std.proofs.lemmas.Int.Digits.{digits_value_push, digits_value-lt, digits_value_more, digits_push, digits_more}
 use Rattle.std.proofs.lemmas.Str.{digit_value_digit}
 use Rattle.std.proofs.lemmas.Str.Parse.{digit_from_value}
-use Rattle.mt_time.specs.Digits.{numeral, AreDecimals, seven_of, fraction_of}
+use Rattle.mt_time.specs.Digits.{numeral}
 
 -- digits and their values
 digit_code : (d : ℕ) → d < 10 → digit_value (48 + d) ≡ d
@@ -93,3 +93,13 @@ pub digit_at : (ds : List ℕ) (i : ℕ) → i < length ds → AllDigits 10 ds �
 digit_at [] i lt all = let none : ⊥ = omega (arith, lt) in absurd none
 digit_at (c ∷ cs) zero lt all = digit_from_value c all.0
 digit_at (c ∷ cs) (suc i) lt all = digit_at cs i (omega (arith, lt)) all.1
+
+-- the last digit is written after those before it
+pub numeral_step : (k n : ℕ) → 0 < k → numeral k n ≡ numeral (k - 1) (n / 10) ++ ((48 + n % 10) ∷ [])
+numeral_step zero n some = let none : ⊥ = omega (arith, some) in absurd none
+numeral_step (suc k) n some = let same : suc k - 1 ≡ k = omega arith in numeral_more k n ∙ ap (λ j. numeral j (n / 10) ++ ((48 + n % 10) ∷ [])) (sym same)
+
+pub pushed : (old front whole : List ℕ) (k n digit : ℕ) → 0 < k → front ≡ old ++ numeral (k - 1) (n / 10) → digit ≡ 48 + n % 10 → whole ≡ front ++ (digit ∷ []) → whole ≡ old ++ numeral k n
+pushed old front whole k n digit some before last is =
+    is ∙ ap (λ v. v ++ (digit ∷ [])) before ∙ append_assoc old (numeral (k - 1) (n / 10)) (digit ∷ [])
+    ∙ ap (λ c. old ++ (numeral (k - 1) (n / 10) ++ (c ∷ []))) last ∙ ap (λ v. old ++ v) (sym (numeral_step k n some))

@@ -1,5 +1,5 @@
 -- What the parts of a text are before it is seen whether there is such a moment.
-use Rattle.std.specs.Prelude.{◌≡◌, ℕ, ◌<◌, ◌^◌, List, Option, Some, None}
+use Rattle.std.specs.Prelude.{◌≡◌, ℕ, ◌<◌, List}
 use Rattle.mt_time.specs.declared.fields.Fields.{Fields}
 use Rattle.mt_time.specs.Digits.{AreDecimals, fraction_of}
 use Rattle.mt_time.specs.Moment.{Parts, text_of}

@@ -1,10 +1,13 @@
 //! The numbers of a date and a time of day as they are written.
-ghost use Rattle.std.specs.Prelude.{◌≡◌, ℕ, ◌<◌, ◌≤◌, ◌+◌, ◌-◌, ◌*◌, List, MatchOption, pos};
-ghost use Rattle.mt_time.specs.Digits.{AreDecimals, fraction_of};
+ghost use Rattle.std.specs.Prelude.{◌≡◌, ℕ, ◌<◌, ◌≤◌, ◌+◌, ◌-◌, ◌*◌, ◌/◌, ◌%◌, ◌^◌, List, MatchOption, IfSome, pos};
+ghost use Rattle.mt_time.specs.Digits.{numeral, AreDecimals, fraction_of};
 ghost use Rattle.mt_time.specs.Moment.{IsDateTime, ticks_of};
 ghost use Rattle.mt_time.specs.Written.{AreShort, with_decimals};
 
 use jiff_core::civil::Date;
+
+/// The first year whose moments have ticks.
+const FIRST_YEAR: u32 = 1601;
 
 /// The days from the first date of the calendar, -9999-01-01, to 1601-01-01.
 pub const DAYS_BEFORE_1601: u32 = 4_236_813;
@@ -30,11 +33,12 @@ impl Fields {
     /// The ticks up to this moment, if there is such a moment in the years 1601 to 9999.
     pub fn ticks(self) -> Option<u64>
         requires { AreShort self }
-        ensures { MatchOption result
+        ensures small { IfSome result (λ ticks. ticks < 2 ^ 63) }
+        ensures value { MatchOption result
             ((ds : List ℕ) → IsDateTime (with_decimals self ds) → ⊥)
             (λ ticks. (ds : List ℕ) → AreDecimals ds → self.fraction ≡ fraction_of ds → IsDateTime (with_decimals self ds) × (ticks ≡ ticks_of (with_decimals self ds))) }
     {
-        if self.year < 1601 || self.hour > 23 || self.minute > 59 || self.second > 59 {
+        if self.year < FIRST_YEAR || self.hour > 23 || self.minute > 59 || self.second > 59 {
             return None;
         }
         let Ok(date) = Date::new(self.year as i16, self.month as i8, self.day as i8) else {
@@ -44,5 +48,27 @@ impl Fields {
         let hours = u64::from(days) * 24 + u64::from(self.hour);
         let seconds = (hours * 60 + u64::from(self.minute)) * 60 + u64::from(self.second);
         Some(seconds * TICKS_PER_SECOND + u64::from(self.fraction))
+    }
+
+    /// The parts of the moment that many ticks after 1601-01-01T00:00:00Z.
+    pub fn at(ticks: u64) -> Fields
+        requires { ticks ≤ 2_650_467_743_999_999_999 }
+        ensures date { IsDateTime (with_decimals result (numeral 7 result.fraction)) }
+        ensures ticks { ticks ≡ ticks_of (with_decimals result (numeral 7 result.fraction)) }
+    {
+        let seconds = ticks / TICKS_PER_SECOND;
+        let minutes = seconds / 60;
+        let hours = minutes / 60;
+        let days = (hours / 24) as u32;
+        let date = Date::from_days_since_min(days + DAYS_BEFORE_1601);
+        Fields {
+            year: u32::from(date.year.unsigned_abs()),
+            month: u32::from(date.month),
+            day: u32::from(date.day),
+            hour: (hours % 24) as u32,
+            minute: (minutes % 60) as u32,
+            second: (seconds % 60) as u32,
+            fraction: (ticks % TICKS_PER_SECOND) as u32,
+        }
     }
 }

@@ -2,8 +2,10 @@
 #![tactic(auto)]
 
 mod fields;
+mod print;
 mod read;
 #[cfg(test)]
 mod tests;
 
+pub use print::print_utc;
 pub use read::{BadDate, read_utc};

@@ -1,8 +1,8 @@
 //! From texts to ticks.
-ghost use Rattle.std.specs.Prelude.{◌≡◌, ℕ, ◌<◌, ◌≤◌, ◌+◌, ◌-◌, ◌*◌, ◌^◌, ◌++◌, ◌∷◌, List, length, drop, MatchOption, IfOk, Ok, pos, IsTrue};
+ghost use Rattle.std.specs.Prelude.{◌≡◌, ℕ, ◌<◌, ◌≤◌, ◌+◌, ◌-◌, ◌*◌, ◌^◌, ◌++◌, ◌∷◌, List, length, drop, MatchOption, IfOk, OnErr, Ok, ℤ};
 ghost use Rattle.std.specs.Str.Parse.{AllDigits, digits_value};
 ghost use Rattle.mt_time.specs.Digits.{numeral, AreDecimals, fraction_of};
-ghost use Rattle.mt_time.specs.Moment.{Parts, IsDateTime, text_of, ticks_of, two_after, end_of};
+ghost use Rattle.mt_time.specs.Moment.{HasTicks, HasNoTicks, two_after, end_of};
 ghost use Rattle.mt_time.specs.Written.{AreShort, IsWritten, IsNotWritten};
 
 use crate::fields::Fields;
@@ -33,8 +33,12 @@ fn read_number(text: &[u8], count: usize) -> Option<(u32, &[u8])>
         ((n : ℕ) (rest : List ℕ) → text.now ≡ numeral count n ++ rest → ⊥)
         (λ x. (x.0 < 10 ^ count) × (text.now ≡ numeral count x.0 ++ x.1.now)) }
 {
-    let (digits, rest) = text.split_at_checked(count)?;
-    let number = digits_number(digits)?;
+    let Some((digits, rest)) = text.split_at_checked(count) else {
+        return None;
+    };
+    let Some(number) = digits_number(digits) else {
+        return None;
+    };
     Some((number, rest))
 }
 
@@ -56,11 +60,16 @@ fn read_end(text: &[u8]) -> Option<u32>
         ((ds : List ℕ) → AreDecimals ds → text.now ≡ end_of ds → ⊥)
         (λ n. (n < 10_000_000) × ((ds : List ℕ) × AreDecimals ds × (text.now ≡ end_of ds) × (n ≡ fraction_of ds))) }
 {
-    match text {
-        [b'Z'] => Some(0),
-        [b'.', digits @ .., b'Z'] => read_decimals(digits),
-        _ => None,
+    let Some(text) = text.strip_suffix(b"Z".as_slice()) else {
+        return None;
+    };
+    if text.is_empty() {
+        return Some(0);
     }
+    let Some(digits) = text.strip_prefix(b".".as_slice()) else {
+        return None;
+    };
+    read_decimals(digits)
 }
 
 /// The ticks that one to seven decimals stand for.
@@ -72,24 +81,37 @@ fn read_decimals(digits: &[u8]) -> Option<u32>
     if digits.is_empty() || digits.len() > 7 {
         return None;
     }
-    let mut fraction = digits_number(digits)?;
-    for _ in digits.len()..7 {
-        fraction *= 10;
-    }
-    Some(fraction)
+    let Some(number) = digits_number(digits) else {
+        return None;
+    };
+    Some(number * 10_u32.pow(7 - digits.len() as u32))
 }
 
 /// The numbers of a text, if it is written as a moment is.
 fn read_fields(text: &[u8]) -> Option<Fields>
     ensures { MatchOption result (IsNotWritten text.now) (λ f. AreShort f × IsWritten text.now f) }
 {
-    let (year, rest) = read_number(text, 4)?;
-    let (month, rest) = read_two_after(rest, b'-')?;
-    let (day, rest) = read_two_after(rest, b'-')?;
-    let (hour, rest) = read_two_after(rest, b'T')?;
-    let (minute, rest) = read_two_after(rest, b':')?;
-    let (second, rest) = read_two_after(rest, b':')?;
-    let fraction = read_end(rest)?;
+    let Some((year, rest)) = read_number(text, 4) else {
+        return None;
+    };
+    let Some((month, rest)) = read_two_after(rest, b'-') else {
+        return None;
+    };
+    let Some((day, rest)) = read_two_after(rest, b'-') else {
+        return None;
+    };
+    let Some((hour, rest)) = read_two_after(rest, b'T') else {
+        return None;
+    };
+    let Some((minute, rest)) = read_two_after(rest, b':') else {
+        return None;
+    };
+    let Some((second, rest)) = read_two_after(rest, b':') else {
+        return None;
+    };
+    let Some(fraction) = read_end(rest) else {
+        return None;
+    };
     Some(Fields {
         year,
         month,
@@ -108,8 +130,10 @@ fn read_fields(text: &[u8]) -> Option<Fields>
 /// text outside this grammar, for a day or a time of day that does not exist (second 60 too), and
 /// for a year before 1601. It takes no memory.
 pub fn read_utc(text: &[u8]) -> Result<i64, BadDate>
-    ensures reads { (p : Parts) → IsDateTime p → text.now ≡ text_of p → result ≡ Ok (pos (ticks_of p)) }
-    ensures grammar { IfOk result (λ _. (p : Parts) × IsDateTime p × (text.now ≡ text_of p)) }
+    ensures ok { IfOk result (HasTicks text.now) }
+    ensures bad { OnErr result (HasNoTicks text.now) }
+    // so what `print_utc` printed is read as the ticks that it was given
+    ensures one { (ticks : ℤ) → HasTicks text.now ticks → result ≡ Ok ticks }
 {
     let Some(fields) = read_fields(text) else {
         return Err(BadDate);

@@ -2,12 +2,17 @@ mod EndLaws
 mod EntityLaws
 mod FieldLaws
 mod FillLaws
+mod FitLaws
 mod GatherLaws
 mod HeadLaws
 mod InsertLaws
 mod LineLaws
 mod NameLaws
 mod ObjectLaws
+mod ReplyLaws
 mod RunLaws
+mod RunningLaws
 mod SectionLaws
+mod SessionLaws
+mod StoringLaws
 mod TextLaws

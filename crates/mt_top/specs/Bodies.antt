@@ -1,5 +1,5 @@
 -- The plain form of an entity's body: an object of strings without blanks between tokens and without escapes.
-use Rattle.std.specs.Prelude.{◌≡◌, ℕ, ◌==◌, nat_le, Bool, true, not, ◌&&◌, bytes_eq, All, IsUtf8, List, [], ◌∷◌, ◌++◌, map, codes}
+use Rattle.std.specs.Prelude.{◌≡◌, ℕ, ◌==◌, nat_le, Bool, true, not, ◌&&◌, bytes_eq, All, IsUtf8, List, ◌++◌, map, codes}
 use Rattle.std.specs.List.{list_all, IsDistinct, join_with_byte}
 
 -- a name and its text

@@ -1,5 +1,5 @@
 -- A plain insert: the request, the entity that it names, and the bytes that spell it.
-use Rattle.std.specs.Prelude.{◌≡◌, ℕ, Bool, true, not, ◌||◌, bytes_eq, All, Contains, IsPermutation, List, [], ◌∷◌, ◌++◌, map, filter, length, codes, None}
+use Rattle.std.specs.Prelude.{◌≡◌, ℕ, Bool, true, not, ◌||◌, bytes_eq, All, Contains, IsPermutation, List, ◌++◌, map, filter, length, codes, None}
 use Rattle.mt_model.specs.declared.key.Key.{Key}
 use Rattle.mt_model.specs.declared.value.Prop.{Prop}
 use Rattle.mt_model.specs.declared.value.Value.TheVariants.{Str}

@@ -7,3 +7,8 @@ pub mod Peels
 pub mod HeadEnds
 pub mod Members
 pub mod Filling
+pub mod Storing
+pub mod Replies
+pub mod Session
+pub mod Turns
+pub mod Run

@@ -6,4 +6,10 @@ mod ends;
 mod entity;
 mod heads;
 mod reader;
+mod reply;
+mod running;
 mod runs;
+mod session;
+mod storing;
+
+pub use running::{Status, run};

@@ -1,4 +1,4 @@
-use Rattle.std.proofs.Common.{sym, ◌∙◌, ◌≡◌, false, arith, take}
+use Rattle.std.proofs.Common.{sym, ◌∙◌, ◌≡◌, false, take}
 use Rattle.mt_model.specs.Props.{repeats}
 use Rattle.mt_model.proofs.Repeats.{seen_step, left_step, not_true}
 use Rattle.mt_model.proofs.props.first_duplicate.Goals as goal

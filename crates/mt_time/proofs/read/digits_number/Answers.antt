@@ -1,4 +1,4 @@
-use Rattle.std.proofs.Common.{refl, arith}
+use Rattle.std.proofs.Common.{arith}
 use Rattle.mt_time.proofs.DigitLaws.{value_more, value_small, digit_at}
 use Rattle.mt_time.proofs.read.digits_number.Goals as goal
 
