@@ -60,9 +60,9 @@ property_noted found new m (Ok true) p r pk rk push = λ ms h plain.
     record {
       plain = All-push IsPlainMember ms m h.plain plain;
       pk = named_append pk_name ms (m ∷ []) ∙ ap (λ (xs : List (List ℕ)). texts_named pk_name ms ++ xs) (named_no pk_name m [] p) ∙ append-nil (texts_named pk_name ms) ∙ h.pk
-        ∙ ap (λ (o : Option (Bor (List ℕ))). option_to_list (option_map (λ (t : Bor (List ℕ)). t.now) o)) (sym pk);
+          ∙ ap (λ (o : Option (Bor (List ℕ))). option_to_list (option_map (λ (t : Bor (List ℕ)). t.now) o)) (sym pk);
       rk = named_append rk_name ms (m ∷ []) ∙ ap (λ (xs : List (List ℕ)). texts_named rk_name ms ++ xs) (named_no rk_name m [] r) ∙ append-nil (texts_named rk_name ms) ∙ h.rk
-        ∙ ap (λ (o : Option (Bor (List ℕ))). option_to_list (option_map (λ (t : Bor (List ℕ)). t.now) o)) (sym rk);
+          ∙ ap (λ (o : Option (Bor (List ℕ))). option_to_list (option_map (λ (t : Bor (List ℕ)). t.now) o)) (sym rk);
       names = subst (All (λ (m : Member). is_plain_name m.0 ≡ true)) (sym props) (All-push (λ (m : Member). is_plain_name m.0 ≡ true) (properties ms) m h.names push.0);
       props = push.1 ∙ ap (λ (ps : List Prop). ps ++ text_prop m ∷ []) h.props ∙ sym (ap (map text_prop) props ∙ map-append text_prop (properties ms) (m ∷ []));
     }

@@ -10,11 +10,11 @@ use Rattle.mt_top.specs.declared.reader.ReadFault.TheVariants.{Failed, NoMemory}
 use Rattle.mt_top.specs.Inserts.{HasNoInsert, print_insert}
 use Rattle.mt_top.specs.HeadEnds.{head_end, beyond, IsScanned}
 use Rattle.mt_top.specs.Members.{HasNoEntity}
-use Rattle.mt_top.specs.Peels.{HasNoHead}
+use Rattle.mt_top.specs.Peels.{HasHead, HasNoHead}
 use Rattle.mt_top.specs.Reading.{ahead, Later, Broke, Took, ReadAs, ReadsRequest}
-use Rattle.mt_top.specs.Filling.{Filled, FilledAs, Fills, Reached, IsOther, EndsAt, IsOpened, FellShort, TakesAs}
+use Rattle.mt_top.specs.Filling.{Filled, FilledAs, Fills, Reached, IsOther, EndsAt, IsOpened, FellShort, TakesAs, ReadsHead, Waits}
 use Rattle.mt_top.proofs.EndLaws.{scanned_none, scanned_grows, scanned_is, scanned_all}
-use Rattle.mt_top.proofs.InsertLaws.{no_end, late_end, wrong_head, end_grows, end_long, opened_grows, short_body, wrong_body, within_grows, Insertion, insert_made}
+use Rattle.mt_top.proofs.InsertLaws.{no_end, late_end, wrong_head, end_grows, end_long, opened_grows, short_body, wrong_body, within_grows, Insertion, insert_made, opening_short, opening_small}
 
 before_before : (a b : List ℕ) (known : Option (List ℕ)) → before_known a (before_known b known) ≡ before_known (a ++ b) known
 before_before a b None = refl
@@ -192,7 +192,7 @@ taken kept s kept' t head n (Ok (incoming.Insert v)) kept'' r o there takes =
       key = made.key;
       props = made.props;
       read = r.same ∙ ap (λ (v : List ℕ). before_known v t.left) (made.whole ∙ ap (λ (v : List ℕ). print_insert made.insert ++ v) (sym takes.1))
-        ∙ sym (before_before (print_insert made.insert) kept'' t.left);
+          ∙ sym (before_before (print_insert made.insert) kept'' t.left);
     }
 taken kept s kept' t head n (Ok incoming.End) kept'' r o there takes = absurd takes
 taken kept s kept' t head n (Ok incoming.Other) kept'' r o there takes =
@@ -216,3 +216,30 @@ as_after kept s kept' t (Err NoMemory) known u r a = tt
 
 pub reads_after : (kept : List ℕ) (s : Input) (kept' : List ℕ) (t : Input) (r : Result Incoming ReadFault) (kept'' : List ℕ) (u : Input) → Reached kept s kept' t → ReadsRequest kept' t r kept'' u → ReadsRequest kept s r kept'' u
 reads_after kept s kept' t r kept'' u x y = record { later = later_then s t u x.later y.later; read = as_after kept s kept' t r (ahead kept'' u) u x y.read }
+
+-- the ends of reading a head
+pub head_failed : (kept : List ℕ) (s : Input) (kept' : List ℕ) (t : Input) (e : ReadFault) (kept'' : List ℕ) (u : Input) → Reached kept s kept' t → head_end kept' ≡ None → Fills kept' t (Err e) kept'' u → ReadsHead kept s (Err e) kept'' u
+head_failed kept s kept' t Failed kept'' u r none f = record { later = later_then s t u r.later f.later; read = broke kept s kept' t kept'' u r f (no_end kept' none) }
+head_failed kept s kept' t NoMemory kept'' u r none f = record { later = later_then s t u r.later f.later; read = tt }
+
+-- the ends of reading a body
+pub body_taken : (kept : List ℕ) (s : Input) (kept' : List ℕ) (t : Input) (head n : ℕ) (r : Result Incoming ReadFault) (kept'' : List ℕ) → IsOpened kept head n → Waits kept s (head + n) (Ok true) kept' t → TakesAs kept' head n r kept'' → ReadsRequest kept s r kept'' t
+body_taken kept s kept' t head n r kept'' o w takes = record { later = w.later; read = taken kept s kept' t head n r kept'' w.read.0 o w.read.1 takes }
+
+pub body_short : (kept : List ℕ) (s : Input) (kept' : List ℕ) (t : Input) (head n : ℕ) → IsOpened kept head n → Waits kept s (head + n) (Ok false) kept' t → ReadsRequest kept s (Ok incoming.Other) kept' t
+body_short kept s kept' t head n o w = record { later = w.later; read = other_short kept s head n o w.read }
+
+pub body_failed : (kept : List ℕ) (s : Input) (kept' : List ℕ) (t : Input) (head n : ℕ) (e : ReadFault) → IsOpened kept head n → Waits kept s (head + n) (Err e) kept' t → ReadsRequest kept s (Err e) kept' t
+body_failed kept s kept' t head n Failed o w = record { later = w.later; read = broke_short kept s head n kept' t o w.read }
+body_failed kept s kept' t head n NoMemory o w = record { later = w.later; read = tt }
+
+-- a head and its body are far below the greatest number
+pub small_sum : (kept slice : List ℕ) (head n : ℕ) → slice ≡ kept → EndsAt kept head → HasHead (take head slice) n → head + n ≤ 4294967296
+small_sum kept slice head n same e has =
+    let short : length (take head slice) ≤ 16384 = opening_short (take head slice) n has in
+    let size : n ≤ 4194304 = opening_small (take head slice) n has in
+    let within : head ≤ length slice = subst (λ (x : List ℕ). head ≤ length x) (sym same) e.within in
+    omega (arith, short, size, within, length-take head slice)
+
+pub head_refused : (kept : List ℕ) (s : Input) (kept' slice : List ℕ) (t : Input) (n : ℕ) → Reached kept s kept' t → EndsAt kept' n → slice ≡ kept' → HasNoHead (take n slice) → ReadsRequest kept s (Ok incoming.Other) kept' t
+head_refused kept s kept' slice t n r e same none = record { later = r.later; read = other_head kept s kept' t n r e (subst (λ (x : List ℕ). HasNoHead (take n x)) same none) }

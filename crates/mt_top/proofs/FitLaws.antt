@@ -143,20 +143,20 @@ module _ (store : ℕ) (es : List Exchange) (i : Insert) (tag : Tag) (b c : Cont
       let mark : Stored = stored use_old (next_tag store b.counter) in
       let with_mark : Rows = with_row b.rows i.key.pk marker mark in
       let beside : (q : Key) → q.rk ≢ marker → row_at with_mark q.pk q.rk ≡ row_at b.rows q.pk q.rk =
-          λ q ne. row_at-with_row b.rows i.key.pk marker mark q.pk q.rk
-              ∙ ap (λ t. cond (bytes_eq i.key.pk q.pk && t) (Some mark) (row_at b.rows q.pk q.rk)) (text_false marker q.rk (λ e. ne (sym e)))
-              ∙ elim (bytes_eq i.key.pk q.pk) as (λ t. cond (t && false) (Some mark) (row_at b.rows q.pk q.rk) ≡ row_at b.rows q.pk q.rk) [ true ↦ refl | false ↦ refl ] in
+      λ q ne. row_at-with_row b.rows i.key.pk marker mark q.pk q.rk
+      ∙ ap (λ t. cond (bytes_eq i.key.pk q.pk && t) (Some mark) (row_at b.rows q.pk q.rk)) (text_false marker q.rk (λ e. ne (sym e)))
+      ∙ elim (bytes_eq i.key.pk q.pk) as (λ t. cond (t && false) (Some mark) (row_at b.rows q.pk q.rk) ≡ row_at b.rows q.pk q.rk) [ true ↦ refl | false ↦ refl ] in
       let at_mark : (pk : List ℕ) → row_at with_mark pk marker ≡ cond (bytes_eq i.key.pk pk && true) (Some mark) (row_at b.rows pk marker) =
-          λ pk. row_at-with_row b.rows i.key.pk marker mark pk marker ∙ ap (λ t. cond (bytes_eq i.key.pk pk && t) (Some mark) (row_at b.rows pk marker)) (text_same marker) in
+      λ pk. row_at-with_row b.rows i.key.pk marker mark pk marker ∙ ap (λ t. cond (bytes_eq i.key.pk pk && t) (Some mark) (row_at b.rows pk marker)) (text_same marker) in
       let here : (pk : List ℕ) → bytes_eq pk i.key.pk ≡ true → row_at with_mark pk marker ≡ Some mark =
-          λ pk same. at_mark pk ∙ ap (λ t. cond (t && true) (Some mark) (row_at b.rows pk marker)) (ap (bytes_eq i.key.pk) (text_true pk i.key.pk same) ∙ text_same i.key.pk) in
+      λ pk same. at_mark pk ∙ ap (λ t. cond (t && true) (Some mark) (row_at b.rows pk marker)) (ap (bytes_eq i.key.pk) (text_true pk i.key.pk same) ∙ text_same i.key.pk) in
       let mark_now : (pk : List ℕ) → IsMark (is_born pk (es ++ record { insert = i; answer = Created tag } ∷ [])) (row_at with_mark pk marker) =
-          λ pk. elim (bytes_eq i.key.pk pk) as (λ t. bytes_eq i.key.pk pk ≡ t → IsMark (is_born pk (es ++ record { insert = i; answer = Created tag } ∷ [])) (row_at with_mark pk marker)) [
-            | true ↦ λ e. subst (λ t. IsMark t (row_at with_mark pk marker)) (sym (born_more pk es (record { insert = i; answer = Created tag })))
-                (is_marked_here (is_born pk es) (bytes_eq pk i.key.pk) (row_at with_mark pk marker) (mark_of_row _ mark (here pk (ap (λ p. bytes_eq p i.key.pk) (sym (text_true i.key.pk pk e)) ∙ text_same i.key.pk)) refl) (ap (λ p. bytes_eq p i.key.pk) (sym (text_true i.key.pk pk e)) ∙ text_same i.key.pk))
-            | false ↦ λ e. subst (IsMark (is_born pk (es ++ record { insert = i; answer = Created tag } ∷ []))) (sym (at_mark pk ∙ ap (λ t. cond (t && true) (Some mark) (row_at b.rows pk marker)) e))
-                (marks_more pk (row_at b.rows pk marker) (fit.holds.marks pk) (λ same. absurd (text_clash pk i.key.pk same e)))
-          ] refl in
+      λ pk. elim (bytes_eq i.key.pk pk) as (λ t. bytes_eq i.key.pk pk ≡ t → IsMark (is_born pk (es ++ record { insert = i; answer = Created tag } ∷ [])) (row_at with_mark pk marker)) [
+        | true ↦ λ e. subst (λ t. IsMark t (row_at with_mark pk marker)) (sym (born_more pk es (record { insert = i; answer = Created tag })))
+            (is_marked_here (is_born pk es) (bytes_eq pk i.key.pk) (row_at with_mark pk marker) (mark_of_row _ mark (here pk (ap (λ p. bytes_eq p i.key.pk) (sym (text_true i.key.pk pk e)) ∙ text_same i.key.pk)) refl) (ap (λ p. bytes_eq p i.key.pk) (sym (text_true i.key.pk pk e)) ∙ text_same i.key.pk))
+        | false ↦ λ e. subst (IsMark (is_born pk (es ++ record { insert = i; answer = Created tag } ∷ []))) (sym (at_mark pk ∙ ap (λ t. cond (t && true) (Some mark) (row_at b.rows pk marker)) e))
+            (marks_more pk (row_at b.rows pk marker) (fit.holds.marks pk) (λ same. absurd (text_clash pk i.key.pk same e)))
+      ] refl in
       record {
         answers = answered a.free (ap (λ (t : Tag). t.store) a.tag_is);
         apart = distinct_more lt;

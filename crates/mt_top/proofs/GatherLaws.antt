@@ -79,7 +79,7 @@ pub gather_more : (bytes rest : List ℕ) (found new : Found) → Gathered bytes
 gather_more bytes rest found new g p has notes more e = record {
   members = g.members ++ member_of p ∷ [];
   whole = g.whole ∙ ap (λ (x : List ℕ). codes "{" ++ (print_led g.members ++ x)) (has.whole ∙ ap (λ (x : List ℕ). print_member (member_of p) ++ x) e)
-    ∙ ap (λ (x : List ℕ). codes "{" ++ x) (sym (led-push g.members (member_of p) more));
+      ∙ ap (λ (x : List ℕ). codes "{" ++ x) (sym (led-push g.members (member_of p) more));
   holds = notes g.members g.holds has.member;
 }
 
@@ -100,7 +100,7 @@ gather_end bytes rest found new g p has notes end (Some v) ends =
       members = g.members ++ member_of p ∷ [];
       entity = ends (g.members ++ member_of p ∷ []) (notes g.members g.holds has.member);
       whole = g.whole ∙ ap (λ (x : List ℕ). codes "{" ++ (print_led g.members ++ x)) (has.whole ∙ ap (λ (x : List ℕ). print_member (member_of p) ++ x) end)
-        ∙ ap (λ (x : List ℕ). codes "{" ++ x) (sym (led_closed g.members (member_of p)));
+          ∙ ap (λ (x : List ℕ). codes "{" ++ x) (sym (led_closed g.members (member_of p)));
     }
 
 pub gather_shorter : (rest : List ℕ) (p : Part) → HasMember rest p → (more : List ℕ) → p.rest.now ≡ codes "," ++ more → length more < length rest

@@ -30,10 +30,10 @@ pub end_long : (bytes : List ℕ) (n : ℕ) → head_end bytes ≡ Some n → (4
 end_long [] n e = absurd (cc)
 end_long (c ∷ cs) n e =
     elim (end_cases (ends_here (c ∷ cs)) (head_end cs) n e) as (λ _. (4 ≤ length (c ∷ cs)) × (4 ≤ n)) [
-      inl here ↦ let is = here_is (c ∷ cs) here.0 in
-        (omega (arith, ap (length {A = ℕ}) is, length-append (codes "\r\n\r\n") (drop 4 (c ∷ cs))), omega (arith, here.1))
-    | inr further ↦ let long = end_long cs further.1.0 further.1.1 in
-        (omega (arith, long.0), omega (arith, long.1, further.1.2))
+      | inl here ↦ let is = here_is (c ∷ cs) here.0 in
+          (omega (arith, ap (length {A = ℕ}) is, length-append (codes "\r\n\r\n") (drop 4 (c ∷ cs))), omega (arith, here.1))
+      | inr further ↦ let long = end_long cs further.1.0 further.1.1 in
+          (omega (arith, long.0), omega (arith, long.1, further.1.2))
     ]
 
 end_here_grows : (bytes more : List ℕ) (n : ℕ) → ends_here bytes ≡ true → n ≡ 4 → head_end (bytes ++ more) ≡ Some n
@@ -50,9 +50,9 @@ pub end_grows : (bytes more : List ℕ) (n : ℕ) → head_end bytes ≡ Some n 
 end_grows [] more n e = absurd (cc)
 end_grows (c ∷ cs) more n e =
     elim (end_cases (ends_here (c ∷ cs)) (head_end cs) n e) as (λ _. head_end (c ∷ (cs ++ more)) ≡ Some n) [
-      inl here ↦ end_here_grows (c ∷ cs) more n here.0 here.1
-    | inr further ↦ end_after c (cs ++ more) (not_here_grows c cs more (end_long (c ∷ cs) n e).0 further.0)
-        ∙ ap (beyond 1) (end_grows cs more further.1.0 further.1.1) ∙ ap Some (sym further.1.2)
+      | inl here ↦ end_here_grows (c ∷ cs) more n here.0 here.1
+      | inr further ↦ end_after c (cs ++ more) (not_here_grows c cs more (end_long (c ∷ cs) n e).0 further.0)
+          ∙ ap (beyond 1) (end_grows cs more further.1.0 further.1.1) ∙ ap Some (sym further.1.2)
     ]
 
 -- the parts of an insert at the front

@@ -71,8 +71,8 @@ apart_all : (x : List ℕ) (ms : List Member) → bytes_eq x pk_name ≡ false �
 apart_all x [] p r a = tt
 apart_all x (m ∷ ms) p r a =
     let key = λ (e : is_property m ≡ false). elim (is_key (bytes_eq m.0 pk_name) (bytes_eq m.0 rk_name) e) as (λ _. bytes_eq x m.0 ≡ false) [
-      inl y ↦ ap (bytes_eq x) (name_is m.0 pk_name y) ∙ p
-    | inr y ↦ ap (bytes_eq x) (name_is m.0 rk_name y) ∙ r
+      | inl y ↦ ap (bytes_eq x) (name_is m.0 pk_name y) ∙ p
+      | inr y ↦ ap (bytes_eq x) (name_is m.0 rk_name y) ∙ r
     ] in
     let step = apart_step x (is_property m) m (properties ms) key a in
     (step.0, apart_all x ms p r step.1)
@@ -151,10 +151,10 @@ pub distinct_members : (ms : List Member) → length (texts_named pk_name ms) �
 distinct_members [] p r d = d
 distinct_members (m ∷ ms) p r d =
     elim (role_cases m.0) as (λ _. IsDistinct bytes_eq (map (λ (m : Member). m.0) (m ∷ ms))) [
-      inl e ↦ distinct_pk m ms p r d e (distinct_members ms)
-    | inr other ↦ elim other as (λ _. IsDistinct bytes_eq (map (λ (m : Member). m.0) (m ∷ ms))) [
-        inl e ↦ distinct_rk m ms p r d e (distinct_members ms)
-      | inr e ↦ distinct_property m ms p r d e.0 e.1 (distinct_members ms)
+      | inl e ↦ distinct_pk m ms p r d e (distinct_members ms)
+      | inr other ↦ elim other as (λ _. IsDistinct bytes_eq (map (λ (m : Member). m.0) (m ∷ ms))) [
+        | inl e ↦ distinct_rk m ms p r d e (distinct_members ms)
+        | inr e ↦ distinct_property m ms p r d e.0 e.1 (distinct_members ms)
       ]
     ]
 
@@ -185,26 +185,26 @@ pub contains_named : (name : List ℕ) (ms : List Member) (t : List ℕ) → tex
 contains_named name [] t e = absurd (cc)
 contains_named name (m ∷ ms) t e =
     elim (named_cases name m) as (λ _. Contains (m ∷ ms) (name, t)) [
-      inl y ↦ let first : m.1 ∷ texts_named name ms ≡ t ∷ [] = sym (named_yes name m ms y) ∙ e in
-        first_item m (name, t) ms (member_is m name t (name_is m.0 name y) (cc))
-    | inr n ↦ Contains-append_right (m ∷ []) ms (name, t) (contains_named name ms t (sym (named_no name m ms n) ∙ e))
+      | inl y ↦ let first : m.1 ∷ texts_named name ms ≡ t ∷ [] = sym (named_yes name m ms y) ∙ e in
+          first_item m (name, t) ms (member_is m name t (name_is m.0 name y) (cc))
+      | inr n ↦ Contains-append_right (m ∷ []) ms (name, t) (contains_named name ms t (sym (named_no name m ms n) ∙ e))
     ]
 
 named_kept : (name : List ℕ) (m : Member) (ms : List Member) (v : List ℕ) → Contains (texts_named name ms) v → Contains (texts_named name (m ∷ ms)) v
 named_kept name m ms v c =
     elim (named_cases name m) as (λ _. Contains (texts_named name (m ∷ ms)) v) [
-      inl y ↦ subst (λ (xs : List (List ℕ)). Contains xs v) (sym (named_yes name m ms y)) (Contains-append_right (m.1 ∷ []) (texts_named name ms) v c)
-    | inr n ↦ subst (λ (xs : List (List ℕ)). Contains xs v) (sym (named_no name m ms n)) c
+      | inl y ↦ subst (λ (xs : List (List ℕ)). Contains xs v) (sym (named_yes name m ms y)) (Contains-append_right (m.1 ∷ []) (texts_named name ms) v c)
+      | inr n ↦ subst (λ (xs : List (List ℕ)). Contains xs v) (sym (named_no name m ms n)) c
     ]
 
 pub named_contains : (name : List ℕ) (ms : List Member) (v : List ℕ) → Contains ms (name, v) → Contains (texts_named name ms) v
 named_contains name [] v c = absurd (omega (arith, c.1))
 named_contains name (m ∷ ms) v c =
     elim (Contains-append_cases (m ∷ []) ms (name, v) c) as (λ _. Contains (texts_named name (m ∷ ms)) v) [
-      inl one ↦ let same : m ≡ (name, v) = only_item m (name, v) one in
-        let named : bytes_eq m.0 name ≡ true = (bytes_eq-Decides m.0 name).1 (ap (λ (m : Member). m.0) same) in
-        subst (λ (xs : List (List ℕ)). Contains xs v) (sym (named_yes name m ms named)) (first_item m.1 v (texts_named name ms) (ap (λ (m : Member). m.1) same))
-    | inr further ↦ named_kept name m ms v (named_contains name ms v further)
+      | inl one ↦ let same : m ≡ (name, v) = only_item m (name, v) one in
+          let named : bytes_eq m.0 name ≡ true = (bytes_eq-Decides m.0 name).1 (ap (λ (m : Member). m.0) same) in
+          subst (λ (xs : List (List ℕ)). Contains xs v) (sym (named_yes name m ms named)) (first_item m.1 v (texts_named name ms) (ap (λ (m : Member). m.1) same))
+      | inr further ↦ named_kept name m ms v (named_contains name ms v further)
     ]
 
 -- where one text alone has that name, it is that one

@@ -56,10 +56,13 @@ looks_fresh : (k k' : Store) (next : Next) → Nexts k (From []) (Ok next) k' �
 looks_fresh k k' next n none unsealed = record {
   number = n.counted.number;
   faults = n.counted.faults;
-  looks = weaken _ (λ a b. (b ≡ a) × IsFresh a) k.told k'.told (λ a b p. (p.0, record {
-    empty = fresh_rows a next.pk p.1 none;
-    unsealed = sym p.2 ∙ unsealed;
-  })) n.next.2;
+  looks = weaken _ (λ a b. (b ≡ a) × IsFresh a) k.told k'.told (λ a b p. (
+    p.0,
+    record {
+      empty = fresh_rows a next.pk p.1 none;
+      unsealed = sym p.2 ∙ unsealed;
+    },
+  )) n.next.2;
 }
 
 looks_occupied : (k k' : Store) (next : Next) → Nexts k (From []) (Ok next) k' → ((a : Contents) → IsNext (From []) next.pk a.rows → next.sealed ≡ a.sealed → IsFresh a → ⊥) → Looks k look.Occupied k'
@@ -163,10 +166,13 @@ over_occupied s w k l k' l' looks = record {
   number = looks.number;
   number_new = looks.number_new;
   spoken = refl;
-  ends = (idle_over s w k l k' l' looks.looks.0 looks.looks.1, elim looks.looks.2 as (λ _. NotFresh k.told k'.told ⊎ NotFresh l.told l'.told) [
-    | inl p ↦ inl (along (λ a b. IsFresh a → ⊥) k.told k'.told p)
-    | inr p ↦ inr (along (λ a b. IsFresh a → ⊥) l.told l'.told p)
-  ]);
+  ends = (
+    idle_over s w k l k' l' looks.looks.0 looks.looks.1,
+    elim looks.looks.2 as (λ _. NotFresh k.told k'.told ⊎ NotFresh l.told l'.told) [
+      | inl p ↦ inl (along (λ a b. IsFresh a → ⊥) k.told k'.told p)
+      | inr p ↦ inr (along (λ a b. IsFresh a → ⊥) l.told l'.told p)
+    ],
+  );
   cause = λ is. cc;
 }
 

@@ -64,12 +64,16 @@ is_new known v known' t =
 pub created_answer : (k k' : Store) (w x : Output) (v : NewEntity) (tag : Tag) (bytes : List ℕ) (r : Result (Unit {0}) SessionFault)
     → k'.number ≡ k.number → k.faults ≤ k'.faults → Stores k v.key v.props (Created tag) k' → bytes ≡ created_reply v.key v.props tag → Replies w bytes r x → AnswersOne k w v r k' x
 created_answer k k' w x v tag bytes (Ok u) number faults stores is reply = record {
-  number = number; faults_store = faults; faults_out = reply.faults;
+  number = number;
+  faults_store = faults;
+  faults_out = reply.faults;
   answers = record { given = Created tag; stores = stores; replied = subst (λ b. Sent w b x) is reply.replied };
 }
 created_answer k k' w x v tag bytes (Err ReadFault) number faults stores is reply = absurd reply.replied
 created_answer k k' w x v tag bytes (Err WriteFault) number faults stores is reply = record {
-  number = number; faults_store = faults; faults_out = reply.faults;
+  number = number;
+  faults_store = faults;
+  faults_out = reply.faults;
   answers = record { given = Created tag; stores = stores; replied = subst (λ b. Cut w b x) is reply.replied };
 }
 created_answer k k' w x v tag bytes (Err StoreFault) number faults stores is reply = absurd reply.replied
@@ -239,23 +243,23 @@ module _ (s : Input) (w : Output) (k : Store) (known' : Option (List ℕ)) (t : 
   }
   failed WriteFault y = elim y.turn as (λ _. Serves s w k (Err WriteFault) t' x' u') [
     | inl m ↦ record {
-        exchanges = on.es ++ exchange m.took.insert m.answering.given ∷ [];
-        left = known'';
-        talk = talk_more s.left k on.es known' u on.talk m.entity known'' m.answering.given u' m.took m.answering.stores y.number;
-        ends = inl (cut_more m.entity m.answering.given m.took.insert m.took.key m.took.props m.answering.replied);
-        faults = omega (arith, on.faults, y.faults);
-        faults_out = omega (arith, on.faults_out, y.faults_out);
-        faults_store = omega (arith, on.faults_store, y.faults_store);
-      }
+      exchanges = on.es ++ exchange m.took.insert m.answering.given ∷ [];
+      left = known'';
+      talk = talk_more s.left k on.es known' u on.talk m.entity known'' m.answering.given u' m.took m.answering.stores y.number;
+      ends = inl (cut_more m.entity m.answering.given m.took.insert m.took.key m.took.props m.answering.replied);
+      faults = omega (arith, on.faults, y.faults);
+      faults_out = omega (arith, on.faults_out, y.faults_out);
+      faults_store = omega (arith, on.faults_store, y.faults_store);
+    }
     | inr b ↦ record {
-        exchanges = on.es;
-        left = known';
-        talk = subst (λ z. Talk s.left k on.es known' z) (sym b.2) on.talk;
-        ends = inr (b.0, cut_after w x x' (written_of on.es) unsupported_reply on.faults_out on.sent b.1);
-        faults = omega (arith, on.faults, y.faults);
-        faults_out = omega (arith, on.faults_out, y.faults_out);
-        faults_store = omega (arith, on.faults_store, y.faults_store);
-      }
+      exchanges = on.es;
+      left = known';
+      talk = subst (λ z. Talk s.left k on.es known' z) (sym b.2) on.talk;
+      ends = inr (b.0, cut_after w x x' (written_of on.es) unsupported_reply on.faults_out on.sent b.1);
+      faults = omega (arith, on.faults, y.faults);
+      faults_out = omega (arith, on.faults_out, y.faults_out);
+      faults_store = omega (arith, on.faults_store, y.faults_store);
+    }
   ]
   failed StoreFault y = record {
     exchanges = on.es;

@@ -1,6 +1,5 @@
 -- A run of the program: the words, the stores of the depot, and a session.
 use Rattle.std.specs.Prelude.{◌≡◌, ◌≢◌, ◌⊎◌, ℕ, ◌≤◌, Bool, true, false, not, bytes_eq, string_bytes, String, List, [], ◌∷◌, ◌++◌, codes, Option, Some, None, Result, Ok, Err, IfSome}
-
 use Rattle.mt_io.specs.Ends.{Input, Output, Rose}
 use Rattle.mt_chain.specs.StoreCall.{Contents}
 use Rattle.mt_chain.specs.Store.{Store, Onward, Same}

@@ -3,6 +3,9 @@ ghost use Rattle.std.specs.Prelude.{◌≡◌, ◌≤◌, ◌+◌, ◌++◌, [],
 ghost use Rattle.mt_top.specs.Reading.{ReadsRequest};
 ghost use Rattle.mt_top.specs.Filling.{Fills, ReadsHead, Waits, TakesAs, IsOpened};
 
+#[cfg(test)]
+mod tests;
+
 use crate::ends::head_end;
 use crate::entity::{NewEntity, read_entity};
 use crate::heads::parse_head;

@@ -9,4 +9,4 @@ returns-in-Ok-Created g c =
     let shows = rw c.in-Ok-Created.field-0-is at c.in-Ok-Created.ensures.shows in
     let kept : ◌≡◌ {A = List Prop} c.in-Ok-Created.props c.args.entity.props = shows.0 in
     created_answer (g.K.Keeper.state c.args.old.now) _ (g.T.Sink.output c.args.sink.now) _ c.args.entity c.in-Ok-Created.tag _ _ c.insert.ensures.number c.insert.ensures.faults shows.1
-        (c.deref.ensures.value ∙ c.write_created.ensures ∙ ap (λ ps. created_reply c.args.entity.key ps c.in-Ok-Created.tag) (c.as_slice-in-Ok-Created.ensures.value ∙ kept)) c.reply.ensures
+    (c.deref.ensures.value ∙ c.write_created.ensures ∙ ap (λ ps. created_reply c.args.entity.key ps c.in-Ok-Created.tag) (c.as_slice-in-Ok-Created.ensures.value ∙ kept)) c.reply.ensures
