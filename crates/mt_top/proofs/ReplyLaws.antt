@@ -26,8 +26,9 @@ use Rattle.mt_model.specs.declared.tag.Tag.{Tag}
 use Rattle.mt_model.specs.Name.{is_plain_name, begins_name, is_reserved}
 use Rattle.mt_top.specs.Inserts.{pk_name, rk_name}
 use Rattle.mt_model.specs.declared.value.Prop.{Prop}
+use Rattle.mt_top.specs.declared.reply.TheConstants.{EXISTS, UNSUPPORTED}
 use Rattle.mt_top.specs.Bodies.{Member, print_member, print_object}
-use Rattle.mt_top.specs.Replies.{member_of, HasRoom, Appends, place_of, below, above, followed, preceded, etag_name, escaped, escaped_tag, entity_members, entity_text, written_entity, entity_size, props_size, member_size, created_head, created_reply, IsRoomFor}
+use Rattle.mt_top.specs.Replies.{member_of, HasRoom, Appends, place_of, below, above, followed, preceded, etag_name, escaped, escaped_tag, entity_members, entity_text, written_entity, entity_size, props_size, member_size, created_head, created_reply, exists_reply, unsupported_reply, IsRoomFor}
 
 abbrev cmp : List ℕ → List ℕ → Ordering
 cmp = slice_cmp nat_cmp
@@ -377,3 +378,10 @@ reply_is key props tag size plain e =
     let same = e ∙ ap length is in
     ap (λ x. created_head (decimal tag.store) (decimal tag.n) x ++ written_entity key props (decimal tag.store) (decimal tag.n)) same
     ∙ ap (λ x. created_head (decimal tag.store) (decimal tag.n) (length (entity_text key props tag)) ++ x) is
+
+-- the constants of the program are the replies that are meant
+pub exists_is : EXISTS.now ≡ exists_reply
+exists_is = refl
+
+pub unsupported_is : UNSUPPORTED.now ≡ unsupported_reply
+unsupported_is = refl
