@@ -252,9 +252,10 @@ pub fn room_for(alloc: Global, key: &Key, props: &[Prop]) -> Result<Vec<u8>, NoM
 }
 
 /// Writes the reply to a written insert into the empty room that was taken for it: a response of
-/// HTTP/1.1 (RFC 9112) whose body is a JSON object (RFC 8259) of the properties, both keys and the
-/// tag, in byte order of names. A property whose value is no text shows an empty one. It takes no
-/// memory, and cannot fail.
+/// HTTP/1.1 (RFC 9112) whose body is a JSON object (RFC 8259) of the properties in their order, with
+/// both keys and the tag each before the first whose name lies above: byte order of names, where the
+/// properties rise. A property whose value is no text shows an empty one. It takes no memory, and
+/// cannot fail.
 pub fn write_created(room: &mut Vec<u8>, key: &Key, props: &[Prop], tag: Tag)
     requires empty { room.old.items ≡ [] }
     requires room { IsRoomFor key.now props.now (vec_capacity room.old) }
