@@ -1,16 +1,15 @@
 -- The first empty line is the one that ends the head.
-use Rattle.std.proofs.Common.{◌≡◌, ◌≢◌, ℕ, zero, suc, ◌+◌, ◌-◌, ◌<◌, ◌≤◌, Bool, true, false, not, cond, List, [], ◌∷◌, ◌++◌, length, take, drop, Option, Some, None, refl, sym, ap, ◌∙◌, arith, append_assoc, append-nil, length-append, subst, codes, nat_eq, get_or}
-use Rattle.std.specs.Prelude.{All, ◌&&◌, ◌==◌, option_map}
+use Rattle.std.proofs.Common.{◌≡◌, ℕ, zero, suc, ◌+◌, ◌-◌, ◌<◌, ◌≤◌, Bool, true, false, not, cond, List, [], ◌∷◌, ◌++◌, length, take, drop, Option, Some, None, refl, sym, ap, ◌∙◌, arith, append_assoc, append-nil, length-append, subst, codes, get_or}
+use Rattle.std.specs.Prelude.{All, ◌&&◌, ◌==◌}
 use Rattle.std.specs.List.{list_all}
 use Rattle.std.proofs.lemmas.List.Elements.{All-head, All-tail}
 use Rattle.std.proofs.lemmas.List.Folds.{list_all-append}
 use Rattle.std.proofs.lemmas.Bool.Decides.{Decides-eqb}
 use Rattle.std.proofs.Math.Seq.{drop-cons}
 use Rattle.std.proofs.lemmas.List.{take_rest}
-use Rattle.mt_top.specs.Heads.{Field, Head, IsField, IsHead, IsWord, is_capital, is_target_byte, is_name_byte, is_value_byte, field_line, field_lines, line_end, print_head}
+use Rattle.mt_top.specs.Heads.{Field, Head, IsField, IsHead, is_capital, is_target_byte, is_name_byte, is_value_byte, field_line, field_lines, print_head}
 use Rattle.mt_top.specs.HeadEnds.{ends_here, beyond, head_end, IsScanned}
 use Rattle.mt_top.proofs.RunLaws.{clash, both}
-use Rattle.mt_top.proofs.FieldLaws.{field_split}
 
 pub beyond_beyond : (a b : ℕ) (o : Option ℕ) → beyond a (beyond b o) ≡ beyond (a + b) o
 beyond_beyond a b None = refl

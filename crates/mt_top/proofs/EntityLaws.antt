@@ -1,11 +1,11 @@
 -- What the members that were read of an object say of the entity.
 use Rattle.std.proofs.Common.{◌≡◌, ◌≢◌, ℕ, ◌+◌, ◌<◌, ◌≤◌, Bool, true, false, not, cond, List, [], ◌∷◌, ◌++◌, length, map, Option, Some, None, Result, Ok, Err, refl, sym, ap, ◌∙◌, arith, append_assoc, append-nil, length-append, codes, subst}
-use Rattle.std.specs.Prelude.{All, bytes_eq, filter, Contains, IsPermutation, option_map, MatchOption}
+use Rattle.std.specs.Prelude.{All, bytes_eq, IsPermutation, option_map}
 use Rattle.std.specs.Borrow.{Bor}
 use Rattle.std.specs.Option.{is_some, option_or, option_to_list}
 use Rattle.std.specs.List.{IsDistinct}
 use Rattle.std.proofs.lemmas.List.{map-append}
-use Rattle.std.proofs.lemmas.List.Elements.{filter-append, All-append, All-push, All-nil, All-same, All-drop, All-head}
+use Rattle.std.proofs.lemmas.List.Elements.{filter-append, All-push, All-same, All-drop, All-head}
 use Rattle.std.proofs.Math.Seq.{drop-append_seam}
 use Rattle.mt_model.specs.declared.key.Key.{Key}
 use Rattle.mt_model.specs.declared.value.Prop.{Prop}
@@ -17,10 +17,10 @@ use Rattle.mt_model.specs.Name.{is_plain_name}
 use Rattle.mt_model.specs.Props.{props_fault, first_repeat, names, RisingNames}
 use Rattle.mt_model.proofs.Listed.{distinct}
 use Rattle.mt_top.specs.declared.entity.Found.{Found}
-use Rattle.mt_top.specs.Bodies.{Member, IsPlainMember, IsPlainObject}
+use Rattle.mt_top.specs.Bodies.{Member, IsPlainMember}
 use Rattle.mt_top.specs.Inserts.{pk_name, rk_name, is_property, properties, text_prop, text_props, IsEntity}
 use Rattle.mt_top.specs.Members.{texts_named, Holds, BeginsNoEntity, NotesAs, PushesAs}
-use Rattle.mt_top.proofs.NameLaws.{named_yes, named_no, named_append, distinct_at, distinct_members, property_yes, property_pk, property_rk, contains_named, named_one, named_not}
+use Rattle.mt_top.proofs.NameLaws.{named_no, named_append, distinct_at, distinct_members, property_yes, contains_named, named_one, named_not}
 
 drop_first : (ms : List Member) (m : Member) (more : List Member) → (ms ++ m ∷ []) ++ more ≡ ms ++ m ∷ more
 drop_first ms m more = append_assoc ms (m ∷ []) more

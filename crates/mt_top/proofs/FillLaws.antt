@@ -1,5 +1,5 @@
 -- Steps of reading, one after another.
-use Rattle.std.proofs.Common.{◌≡◌, ◌≢◌, ℕ, ◌+◌, ◌-◌, ◌<◌, ◌≤◌, ◌^◌, min, Bool, true, false, List, [], ◌∷◌, ◌++◌, length, take, drop, Option, Some, None, Result, Ok, Err, refl, sym, ap, ◌∙◌, arith, append_assoc, append-nil, length-append, length-take, length-drop, subst}
+use Rattle.std.proofs.Common.{◌≡◌, ◌≢◌, ℕ, ◌+◌, ◌-◌, ◌<◌, ◌≤◌, ◌^◌, true, false, List, [], ◌∷◌, ◌++◌, length, take, drop, Option, Some, None, Result, Ok, Err, refl, sym, ap, ◌∙◌, arith, append_assoc, append-nil, length-append, length-take, length-drop, subst}
 use Rattle.std.specs.Prelude.{IfSome}
 use Rattle.std.proofs.lemmas.List.{take_rest, take-append-le}
 use Rattle.mt_io.specs.Ends.{Input, Rose, before_known}
@@ -13,8 +13,8 @@ use Rattle.mt_top.specs.Members.{HasNoEntity}
 use Rattle.mt_top.specs.Peels.{HasHead, HasNoHead}
 use Rattle.mt_top.specs.Reading.{ahead, Later, Broke, Took, ReadAs, ReadsRequest}
 use Rattle.mt_top.specs.Filling.{Filled, FilledAs, Fills, Reached, IsOther, EndsAt, IsOpened, FellShort, TakesAs, ReadsHead, Waits}
-use Rattle.mt_top.proofs.EndLaws.{scanned_none, scanned_grows, scanned_is, scanned_all}
-use Rattle.mt_top.proofs.InsertLaws.{no_end, late_end, wrong_head, end_grows, end_long, opened_grows, short_body, wrong_body, within_grows, Insertion, insert_made, opening_short, opening_small}
+use Rattle.mt_top.proofs.EndLaws.{scanned_grows, scanned_is, scanned_all}
+use Rattle.mt_top.proofs.InsertLaws.{no_end, late_end, wrong_head, end_grows, end_long, opened_grows, short_body, wrong_body, within_grows, insert_made, opening_short, opening_small}
 
 before_before : (a b : List ℕ) (known : Option (List ℕ)) → before_known a (before_known b known) ≡ before_known (a ++ b) known
 before_before a b None = refl

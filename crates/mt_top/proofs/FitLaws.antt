@@ -1,13 +1,12 @@
 -- One more answer: it is that of the reference table, and the store holds what was written.
-use Rattle.std.proofs.Common.{◌≡◌, ◌≢◌, ℕ, ◌+◌, ◌<◌, ◌≤◌, ◌==◌, Bool, true, false, cond, ◌&&◌, List, [], ◌∷◌, ◌++◌, length, Option, Some, None, refl, sym, ap, ◌∙◌, arith, subst, inl, inr}
-use Rattle.std.specs.Prelude.{bytes_eq, is_some, ◌⊎◌, ◌||◌}
-use Rattle.std.specs.List.{list_any, IsDistinct, AllByRecursion}
+use Rattle.std.proofs.Common.{◌≡◌, ◌≢◌, ℕ, ◌+◌, ◌<◌, ◌≤◌, ◌==◌, Bool, true, false, cond, ◌&&◌, List, [], ◌∷◌, ◌++◌, Option, Some, None, refl, sym, ap, ◌∙◌, arith, subst}
+use Rattle.std.specs.Prelude.{bytes_eq, is_some, ◌||◌}
+use Rattle.std.specs.List.{IsDistinct, AllByRecursion}
 use Rattle.std.specs.Ordering.{eq_by_cmp}
 use Rattle.std.proofs.lemmas.Bool.Decides.{nat_tests}
 use Rattle.std.proofs.lemmas.List.Folds.{list_any-append}
 use Rattle.mt_model.specs.declared.key.Key.{Key}
 use Rattle.mt_model.specs.declared.tag.Tag.{Tag}
-use Rattle.mt_model.specs.declared.value.Prop.{Prop}
 use Rattle.mt_model.specs.Key.{key_cmp}
 use Rattle.mt_chain.specs.declared.row.Stored.{Stored}
 use Rattle.mt_chain.specs.Rows.{Rows, row_at, with_row}
@@ -17,7 +16,7 @@ use Rattle.mt_chain.proofs.KeyLaws.{is_tied, text_false, text_true, text_same}
 use Rattle.mt_chain.proofs.RowLaws.{row_at-with_row}
 use Rattle.mt_top.specs.Inserts.{Insert}
 use Rattle.mt_top.specs.Storing.{marker, use_old, stored, Born, Added, WasThere}
-use Rattle.mt_top.specs.Session.{Answer, Created, Exists, Exchange, Table, empty_table, with_entry, after_answer, table_after, IsAnswer, AreAnswered, tag_before, tags_given, is_created, is_born, IsMark, Holds, IsFresh, Fits}
+use Rattle.mt_top.specs.Session.{Created, Exists, Exchange, Table, empty_table, after_answer, table_after, IsAnswer, AreAnswered, tag_before, tags_given, is_created, is_born, IsMark, IsFresh, Fits}
 
 -- ---- one more at the end of a list
 

@@ -1,6 +1,6 @@
 -- How far the reading of an object has come.
-use Rattle.std.proofs.Common.{◌≡◌, ◌≢◌, ℕ, ◌+◌, ◌<◌, ◌≤◌, Bool, true, false, List, [], ◌∷◌, ◌++◌, length, Option, Some, None, Result, Ok, Err, refl, sym, ap, ◌∙◌, arith, append_assoc, append-nil, length-append, codes, subst}
-use Rattle.std.specs.Prelude.{All, MatchOption, option_map, IfOk}
+use Rattle.std.proofs.Common.{◌≡◌, ◌≢◌, ℕ, ◌<◌, true, false, List, [], ◌∷◌, ◌++◌, length, Option, Some, None, Result, Ok, Err, refl, sym, ap, ◌∙◌, arith, append_assoc, length-append, codes, subst}
+use Rattle.std.specs.Prelude.{MatchOption, option_map, IfOk}
 use Rattle.std.specs.Option.{option_to_list}
 use Rattle.std.specs.Borrow.{Bor}
 use Rattle.std.proofs.lemmas.List.{append_cancel_left}
@@ -10,12 +10,12 @@ use Rattle.mt_model.specs.declared.value.Prop.{Prop}
 use Rattle.mt_model.specs.declared.text.NoMemory.{NoMemory}
 use Rattle.mt_model.specs.Name.{is_plain_name}
 use Rattle.mt_top.specs.declared.bodies.Part.{Part}
-use Rattle.mt_top.specs.declared.bodies.Next.TheVariants.{Another, End, Neither}
+use Rattle.mt_top.specs.declared.bodies.Next.TheVariants.{Neither}
 use Rattle.mt_top.specs.declared.entity.Found.{Found}
 use Rattle.mt_top.specs.declared.entity.NewEntity.{NewEntity}
 use Rattle.mt_top.specs.Bodies.{Member, IsPlainMember, print_member, print_object}
 use Rattle.mt_top.specs.Inserts.{IsEntity}
-use Rattle.mt_top.specs.Members.{member_of, HasMember, HasNoMember, IsNext, Holds, NotesAs, EndsAs, Gathered, HasEntity, HasNoEntity, print_led}
+use Rattle.mt_top.specs.Members.{member_of, HasMember, HasNoMember, IsNext, NotesAs, EndsAs, Gathered, HasEntity, HasNoEntity, print_led}
 use Rattle.mt_top.proofs.TextLaws.{member_unique}
 use Rattle.mt_top.proofs.ObjectLaws.{print_closed, print_after, NextMember, object_begins, led-push, led_closed}
 

@@ -1,9 +1,9 @@
 -- A head is its first line, its fields and the empty line.
-use Rattle.std.proofs.Common.{◌≡◌, ◌≢◌, ℕ, ◌<◌, ◌≤◌, List, [], ◌∷◌, ◌++◌, length, Option, Some, None, refl, sym, ap, ◌∙◌, arith, append_assoc, codes, subst}
+use Rattle.std.proofs.Common.{◌≡◌, ℕ, ◌≤◌, List, ◌++◌, length, Option, Some, None, refl, sym, ap, ◌∙◌, arith, append_assoc, codes, subst}
 use Rattle.std.specs.Prelude.{MatchOption}
 use Rattle.std.proofs.lemmas.List.{append_cancel_left}
-use Rattle.mt_top.specs.Heads.{Field, Head, IsHead, is_target_byte, field_lines, line_end, print_head}
-use Rattle.mt_top.specs.Peels.{IsTable, insert_line, print_section, IsSection, HasSection, HasNoSection, IsOpening, HasHead, HasNoHead}
+use Rattle.mt_top.specs.Heads.{Head, is_target_byte, field_lines, line_end, print_head}
+use Rattle.mt_top.specs.Peels.{IsTable, insert_line, print_section, HasSection, HasNoSection, IsOpening, HasHead, HasNoHead}
 use Rattle.mt_top.proofs.RunLaws.{run_unique}
 use Rattle.mt_top.proofs.LineLaws.{line_split}
 

@@ -1,20 +1,20 @@
 -- When a plain insert stands at the front, by the place where the head ends and by what follows it.
-use Rattle.std.proofs.Common.{◌≡◌, ◌≢◌, ℕ, zero, suc, ◌+◌, ◌-◌, ◌<◌, ◌≤◌, ◌^◌, Bool, true, false, cond, List, [], ◌∷◌, ◌++◌, length, take, drop, Option, Some, None, refl, sym, ap, ◌∙◌, arith, append_assoc, append-nil, length-append, length-take, length-drop, subst, codes, decimal, nat_eq, inl, inr}
-use Rattle.std.specs.Prelude.{◌⊎◌, ◌==◌}
+use Rattle.std.proofs.Common.{◌≡◌, ℕ, zero, suc, ◌+◌, ◌-◌, ◌<◌, ◌≤◌, ◌^◌, Bool, true, false, cond, List, [], ◌∷◌, ◌++◌, length, take, drop, Option, Some, None, refl, sym, ap, ◌∙◌, arith, append_assoc, append-nil, length-append, length-take, length-drop, subst, codes, nat_eq, inl, inr}
+use Rattle.std.specs.Prelude.{◌⊎◌}
 use Rattle.std.proofs.lemmas.List.{take-append-le, take-append-drop, append_cancel_left, drop-drop}
 use Rattle.std.proofs.lemmas.Bool.Decides.{Decides-eqb}
 use Rattle.std.proofs.lemmas.Slice.Eq.{starts_is}
 use Rattle.std.proofs.Math.Seq.{take-append_seam, drop-append_seam}
 use Rattle.std.proofs.lemmas.Fmt.{decimal_injective}
 use Rattle.mt_top.specs.declared.entity.NewEntity.{NewEntity}
-use Rattle.mt_top.specs.Heads.{Field, Head, IsHead, IsFramed, IsLength, IsField, fields_named, field_line, field_lines, line_end, print_head}
+use Rattle.mt_top.specs.Heads.{Field, Head, IsFramed, IsLength, fields_named, field_line, field_lines, line_end, print_head}
 use Rattle.mt_top.specs.Bodies.{print_object}
 use Rattle.mt_top.specs.Inserts.{Insert, IsInsert, HasNoInsert, head_of, print_insert}
 use Rattle.mt_top.specs.HeadEnds.{ends_here, beyond, head_end}
-use Rattle.mt_top.specs.Peels.{IsOpening, HasHead, HasNoHead, IsTable, print_section, insert_line}
+use Rattle.mt_top.specs.Peels.{IsOpening, HasHead, HasNoHead, print_section}
 use Rattle.mt_top.specs.Members.{HasEntity, HasNoEntity}
-use Rattle.mt_top.specs.Filling.{EndsAt, IsOpened}
-use Rattle.mt_top.proofs.FieldLaws.{Follows, section_begins}
+use Rattle.mt_top.specs.Filling.{IsOpened}
+use Rattle.mt_top.proofs.FieldLaws.{section_begins}
 use Rattle.mt_top.proofs.HeadLaws.{head_prints, line_unique, table_of}
 use Rattle.mt_top.proofs.EndLaws.{head_ends, end_after}
 

@@ -1,5 +1,5 @@
 -- The members of one name, and when no two have one name.
-use Rattle.std.proofs.Common.{◌≡◌, ◌≢◌, ℕ, zero, suc, ◌+◌, ◌<◌, ◌≤◌, Bool, true, false, not, cond, List, [], ◌∷◌, ◌++◌, length, map, refl, sym, ap, ◌∙◌, arith, append_assoc, append-nil, length-append, codes, subst, inl, inr, get_or}
+use Rattle.std.proofs.Common.{◌≡◌, ℕ, zero, suc, ◌<◌, ◌≤◌, Bool, true, false, not, cond, List, [], ◌∷◌, ◌++◌, length, map, refl, sym, ap, ◌∙◌, arith, subst, inl, inr, get_or}
 use Rattle.std.specs.Prelude.{bytes_eq, filter, Contains, ◌||◌, ◌⊎◌}
 use Rattle.std.specs.List.{IsDistinct, AllByRecursion}
 use Rattle.std.specs.Cmp.Lexicographic.{nat_list_eq_equiv}
@@ -10,7 +10,6 @@ use Rattle.std.proofs.lemmas.Slice.Eq.{bytes_eq-Decides}
 use Rattle.mt_top.specs.Bodies.{Member}
 use Rattle.mt_top.specs.Inserts.{pk_name, rk_name, is_property, properties}
 use Rattle.mt_top.specs.Members.{texts_named}
-use Rattle.mt_top.proofs.RunLaws.{clash}
 
 pub name_is : (x name : List ℕ) → bytes_eq x name ≡ true → x ≡ name
 name_is x name e = (bytes_eq-Decides x name).0 e

@@ -1,9 +1,9 @@
 -- An object is spelled in one way, and members that were read of it are its first ones.
-use Rattle.std.proofs.Common.{◌≡◌, ◌≢◌, ℕ, ◌+◌, ◌<◌, Bool, true, false, List, [], ◌∷◌, ◌++◌, length, map, refl, sym, ap, ◌∙◌, arith, append_assoc, append-nil, length-append, codes, subst}
+use Rattle.std.proofs.Common.{◌≡◌, ℕ, ◌<◌, List, [], ◌∷◌, ◌++◌, length, map, refl, sym, ap, ◌∙◌, arith, append_assoc, codes}
 use Rattle.std.specs.Prelude.{All}
 use Rattle.std.specs.List.{join_with_byte}
 use Rattle.std.proofs.lemmas.List.Elements.{All-head, All-tail}
-use Rattle.mt_top.specs.Bodies.{Member, IsPlainMember, print_member, print_object}
+use Rattle.mt_top.specs.Bodies.{Member, IsPlainMember, print_member}
 use Rattle.mt_top.specs.Members.{print_led}
 use Rattle.mt_top.proofs.TextLaws.{member_unique}
 

@@ -1,8 +1,6 @@
 -- A look at the stores, a session over them, and the depot that hands them out.
-use Rattle.std.proofs.Common.{◌≡◌, ◌≢◌, ℕ, ◌+◌, ◌-◌, ◌^◌, ◌<◌, ◌≤◌, min, Bool, true, false, cond, List, [], ◌∷◌, ◌++◌, Option, Some, None, Ok, Err, refl, sym, ap, ◌∙◌, arith, subst, inl, inr}
+use Rattle.std.proofs.Common.{◌≡◌, ◌≢◌, ℕ, ◌+◌, ◌-◌, ◌^◌, ◌≤◌, min, Bool, true, false, cond, List, [], ◌∷◌, Option, Some, None, Ok, Err, refl, sym, ap, ◌∙◌, arith, subst, inl, inr}
 use Rattle.std.specs.Prelude.{Result, IfSome, ◌⊎◌, is_some}
-use Rattle.std.specs.Ordering.{nat_cmp, is_le}
-use Rattle.std.specs.Cmp.Lexicographic.{slice_cmp}
 use Rattle.mt_io.specs.Ends.{Input, Output, Rose}
 use Rattle.mt_chain.specs.declared.query.Next.{Next}
 use Rattle.mt_chain.specs.declared.query.PkFrom.{PkFrom}
@@ -11,7 +9,7 @@ use Rattle.mt_chain.specs.declared.depot.DepotFault.{DepotFault}
 use Rattle.mt_chain.specs.declared.depot.DepotFault.TheVariants as depot
 use Rattle.mt_chain.specs.Rows.{Rows, has_partition, is_past}
 use Rattle.mt_chain.specs.StoreCall.{Contents, IsNext}
-use Rattle.mt_chain.specs.Store.{Store, Onward, Same, Nexts, NextShows}
+use Rattle.mt_chain.specs.Store.{Store, Onward, Same, Nexts}
 use Rattle.mt_chain.specs.Shelf.{Shelf, HandedOut, NotHandedOut, Opens, SameBeside, TakesBack}
 use Rattle.mt_chain.proofs.RowLaws.{no_rows}
 use Rattle.mt_top.specs.declared.session.SessionEnd.{SessionEnd}
@@ -22,8 +20,8 @@ use Rattle.mt_top.specs.declared.running.Ending.{Ending}
 use Rattle.mt_top.specs.declared.running.Ending.TheVariants.{Served, BadWords, ReadFault, WriteFault, StoreFault, Occupied, Unsupported, NoMemory}
 use Rattle.mt_top.specs.declared.running.Look.{Look}
 use Rattle.mt_top.specs.declared.running.Look.TheVariants as look
-use Rattle.mt_top.specs.Session.{Exchange, IsFresh, Fits, Talk, SessionAs, Serves, written_of}
-use Rattle.mt_top.specs.Run.{ending_of, depot_ending, is_bad_words, Along, Tellings, Idle, NotFresh, Wrote, During, RunEnds, tellings_of, Over, HandedBack, depot_tellings, OverDepot, Looks, LooksAs, LooksBoth, look_of}
+use Rattle.mt_top.specs.Session.{Exchange, IsFresh, Fits, SessionAs, Serves}
+use Rattle.mt_top.specs.Run.{ending_of, depot_ending, is_bad_words, Along, Tellings, Idle, NotFresh, Wrote, During, RunEnds, tellings_of, Over, depot_tellings, OverDepot, Looks, LooksBoth, look_of}
 use Rattle.std.proofs.lemmas.Bool.{cases_eq}
 use Rattle.mt_top.proofs.SessionLaws.{onward_both}
 

@@ -1,14 +1,13 @@
 -- What fields announce of a body, as they are read one by one.
 use Rattle.std.proofs.Common.{◌≡◌, ◌≢◌, ℕ, ◌+◌, ◌<◌, ◌≤◌, Bool, true, false, cond, List, [], ◌∷◌, ◌++◌, length, Option, Some, None, refl, sym, ap, ◌∙◌, arith, append_assoc, append-nil, length-append, subst, codes, drop, inl, inr}
-use Rattle.std.specs.Prelude.{All, filter, ◌||◌, ◌⊎◌, unwrap_or}
-use Rattle.std.proofs.lemmas.List.Elements.{All-head, All-tail, All-push, All-append, filter-append, All-nil, All-same, All-drop}
+use Rattle.std.specs.Prelude.{All, ◌||◌, ◌⊎◌, unwrap_or}
+use Rattle.std.proofs.lemmas.List.Elements.{All-head, All-push, filter-append, All-nil, All-same, All-drop}
 use Rattle.std.proofs.Math.Seq.{drop-append_seam}
 use Rattle.mt_top.specs.declared.heads.Line.{Line}
 use Rattle.mt_top.specs.declared.heads.Kind.TheVariants.{Plain, Length, Refused}
 use Rattle.mt_top.specs.Heads.{Field, IsField, IsFramed, IsLength, is_same, fields_named, field_line, field_lines, line_end}
 use Rattle.mt_top.specs.Peels.{field_of, HasField, HasNoField, is_foreign, is_sizing, Announces, IsKind, IsSection, print_section, HasNoSection, HasSection, SizedAs, Noted, Walked}
-use Rattle.mt_top.proofs.RunLaws.{clash}
-use Rattle.mt_top.proofs.FieldLaws.{field_unique, Follows, section_begins}
+use Rattle.mt_top.proofs.FieldLaws.{field_unique, section_begins}
 
 pub either : (a b : Bool) → (a || b) ≡ true → (a ≡ true) ⊎ (b ≡ true)
 either true b e = inl refl

@@ -1,5 +1,5 @@
 -- How the turns of a session add up.
-use Rattle.std.proofs.Common.{◌≡◌, ◌≢◌, ℕ, ◌+◌, ◌<◌, ◌≤◌, Bool, true, false, List, [], ◌∷◌, ◌++◌, length, Option, Some, None, Ok, Err, refl, sym, ap, ◌∙◌, arith, append_assoc, append-nil, subst, inl, inr}
+use Rattle.std.proofs.Common.{◌≡◌, ◌≢◌, ℕ, ◌≤◌, true, List, [], ◌∷◌, ◌++◌, length, Option, Some, None, Ok, Err, refl, sym, ap, ◌∙◌, arith, append_assoc, append-nil, subst, inl, inr}
 use Rattle.std.specs.Prelude.{Result, IfSome, All, ◌⊎◌, map}
 use Rattle.std.proofs.lemmas.List.Elements.{All-map}
 use Rattle.std.proofs.lemmas.List.Sorted.{All-permutation}
@@ -16,14 +16,13 @@ use Rattle.mt_top.specs.declared.session.SessionEnd.{SessionEnd}
 use Rattle.mt_top.specs.declared.session.SessionEnd.TheVariants.{Input as AtEnd, BadInput}
 use Rattle.mt_top.specs.declared.session.SessionFault.{SessionFault}
 use Rattle.mt_top.specs.declared.session.SessionFault.TheVariants.{ReadFault, WriteFault, StoreFault, NoMemory}
-use Rattle.mt_top.specs.declared.session.Turn.{Turn}
 use Rattle.mt_top.specs.declared.session.Turn.TheVariants.{Answered, Ended}
 use Rattle.mt_top.specs.Inserts.{Insert, IsInsert, IsEntity, properties, text_prop, print_insert}
 use Rattle.mt_top.specs.Reading.{Took, Broke}
 use Rattle.mt_top.specs.Replies.{unsupported_reply, created_reply}
 use Rattle.mt_top.specs.Storing.{marker, Born, Added, WasThere}
-use Rattle.mt_top.specs.Session.{Answer, Created, Exists, Exchange, bytes_of, written_of, reply_to, AreInserts, IsFresh, Fits, Talk, Sent, Cut, IsUnsupported, SessionAs, Serves}
-use Rattle.mt_top.specs.Turns.{IsNew, RepliedAs, Replies, Stores, Answering, AnswersOne, OneMore, TurnAs, Turned}
+use Rattle.mt_top.specs.Session.{Answer, Created, Exists, Exchange, bytes_of, written_of, reply_to, AreInserts, IsFresh, Fits, Talk, Sent, Cut, Serves}
+use Rattle.mt_top.specs.Turns.{IsNew, Replies, Stores, AnswersOne, OneMore, Turned}
 use Rattle.mt_top.proofs.StoringLaws.{not_marker}
 use Rattle.mt_top.proofs.FitLaws.{added, born, was_there, fresh_fits}
 

@@ -1,6 +1,5 @@
 -- A text and a member are spelled in one way.
-use Rattle.std.proofs.Common.{◌≡◌, ◌≢◌, ℕ, ◌<◌, Bool, true, false, List, [], ◌∷◌, ◌++◌, length, refl, sym, ap, ◌∙◌, arith, append_assoc, codes, subst}
-use Rattle.std.specs.Prelude.{IsUtf8}
+use Rattle.std.proofs.Common.{◌≡◌, ℕ, List, ◌∷◌, ◌++◌, refl, sym, ap, ◌∙◌, append_assoc}
 use Rattle.mt_top.specs.Bodies.{Member, is_plain_byte, IsPlainText, IsPlainMember, print_member}
 use Rattle.mt_top.specs.Runs.{IsRun}
 use Rattle.mt_top.specs.Members.{print_text}

@@ -1,5 +1,5 @@
 -- Steps of reading a request: more bytes come, its head ends, its body is whole.
-use Rattle.std.specs.Prelude.{◌≡◌, ℕ, ◌+◌, ◌^◌, ◌<◌, ◌≤◌, Bool, true, false, List, [], ◌++◌, length, take, drop, Option, Some, None, Result, Ok, Err, IfSome}
+use Rattle.std.specs.Prelude.{◌≡◌, ℕ, ◌+◌, ◌^◌, ◌<◌, ◌≤◌, Bool, true, false, List, [], ◌++◌, length, take, drop, Option, Some, Result, Ok, Err, IfSome}
 use Rattle.mt_io.specs.Ends.{Input, Rose, before_known}
 use Rattle.mt_top.specs.declared.reader.HeadRead.{HeadRead}
 use Rattle.mt_top.specs.declared.reader.HeadRead.TheVariants.{Ended, Empty, Missing}

@@ -1,7 +1,6 @@
 -- The members at the front of a body, and what has been read of them.
-use Rattle.std.specs.Prelude.{◌≡◌, ◌≢◌, ℕ, Bool, true, false, bytes_eq, All, List, [], ◌∷◌, ◌++◌, map, filter, codes, Option, Some, None, option_map, Result, Ok, Err, IfOk, MatchOption}
+use Rattle.std.specs.Prelude.{◌≡◌, ◌≢◌, ℕ, Bool, true, false, bytes_eq, All, List, [], ◌∷◌, ◌++◌, map, filter, codes, Option, Some, None, option_map, Result, Ok, Err}
 use Rattle.std.specs.Option.{option_to_list}
-use Rattle.std.specs.List.{join_with_byte}
 use Rattle.mt_model.specs.declared.key.Key.{Key}
 use Rattle.mt_model.specs.declared.value.Prop.{Prop}
 use Rattle.mt_model.specs.declared.text.NoMemory.{NoMemory}
@@ -15,7 +14,7 @@ use Rattle.mt_top.specs.declared.entity.Role.TheVariants.{Partition, Row, Proper
 use Rattle.mt_top.specs.declared.entity.Found.{Found}
 use Rattle.mt_top.specs.declared.entity.NewEntity.{NewEntity}
 use Rattle.mt_top.specs.Bodies.{Member, IsPlainText, IsPlainMember, print_member, print_object}
-use Rattle.mt_top.specs.Inserts.{pk_name, rk_name, is_property, properties, text_prop, text_props, IsEntity}
+use Rattle.mt_top.specs.Inserts.{pk_name, rk_name, properties, text_prop, text_props, IsEntity}
 
 -- "text"
 abbrev pub print_text : List ℕ → List ℕ

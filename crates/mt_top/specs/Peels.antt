@@ -1,5 +1,5 @@
 -- The parts at the front of a head, and its fields as they frame a body.
-use Rattle.std.specs.Prelude.{◌≡◌, ◌≢◌, ℕ, ◌<◌, ◌≤◌, Bool, true, false, ◌||◌, ◌⊎◌, All, List, [], ◌∷◌, ◌++◌, length, codes, decimal, Option, Some, None}
+use Rattle.std.specs.Prelude.{◌≡◌, ◌≢◌, ℕ, ◌≤◌, Bool, true, false, ◌||◌, ◌⊎◌, All, List, [], ◌∷◌, ◌++◌, length, codes, decimal, Option, Some, None}
 use Rattle.mt_top.specs.declared.heads.Line.{Line}
 use Rattle.mt_top.specs.declared.heads.Kind.{Kind}
 use Rattle.mt_top.specs.declared.heads.Kind.TheVariants.{Plain, Length, Refused}

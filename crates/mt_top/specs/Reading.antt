@@ -1,5 +1,5 @@
 -- Bytes read and bytes still to be read, and what reading one request says of them.
-use Rattle.std.specs.Prelude.{◌≡◌, ℕ, ◌+◌, ◌^◌, ◌<◌, ◌≤◌, List, [], ◌∷◌, ◌++◌, length, Option, Some, None, Result, Ok, Err, IfSome}
+use Rattle.std.specs.Prelude.{◌≡◌, ℕ, ◌<◌, ◌≤◌, List, [], length, Option, Result, Ok, Err, IfSome}
 use Rattle.mt_io.specs.Ends.{Input, Rose, before_known}
 use Rattle.mt_top.specs.declared.entity.NewEntity.{NewEntity}
 use Rattle.mt_top.specs.declared.reader.Incoming.{Incoming}

@@ -1,5 +1,5 @@
 -- A run of the program: the words, the stores of the depot, and a session.
-use Rattle.std.specs.Prelude.{◌≡◌, ◌≢◌, ◌⊎◌, ℕ, ◌≤◌, Bool, true, false, not, bytes_eq, string_bytes, String, List, [], ◌∷◌, ◌++◌, codes, Option, Some, None, Result, Ok, Err, IfSome}
+use Rattle.std.specs.Prelude.{◌≡◌, ◌≢◌, ◌⊎◌, ℕ, ◌≤◌, Bool, true, false, not, bytes_eq, string_bytes, String, List, [], ◌∷◌, ◌++◌, codes, Option, Result, Ok, Err, IfSome}
 use Rattle.mt_io.specs.Ends.{Input, Output, Rose}
 use Rattle.mt_chain.specs.StoreCall.{Contents}
 use Rattle.mt_chain.specs.Store.{Store, Onward, Same}
@@ -16,7 +16,7 @@ use Rattle.mt_top.specs.declared.session.SessionFault.{SessionFault}
 use Rattle.mt_top.specs.declared.session.SessionFault.TheVariants as session_fault
 use Rattle.mt_top.specs.Reading.{Broke}
 use Rattle.mt_top.specs.Replies.{unsupported_reply}
-use Rattle.mt_top.specs.Session.{Exchange, bytes_of, written_of, AreInserts, IsFresh, Fits, Talk, Sent, Cut, IsUnsupported}
+use Rattle.mt_top.specs.Session.{Exchange, bytes_of, written_of, AreInserts, IsFresh, Fits, Sent, Cut, IsUnsupported}
 use Rattle.mt_io.specs.Ends.{before_known}
 
 -- the one word `session`

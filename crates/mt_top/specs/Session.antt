@@ -1,5 +1,5 @@
 -- A connection of plain inserts: what each is answered, by one reference table, and what the old store then holds.
-use Rattle.std.specs.Prelude.{◌≡◌, ◌≢◌, ◌⊎◌, ℕ, ◌+◌, ◌<◌, ◌≤◌, Bool, true, false, ◌&&◌, bytes_eq, is_some, All, List, [], ◌∷◌, ◌++◌, length, Option, Some, None, Result, Ok, Err, IfSome, if◌then◌else◌}
+use Rattle.std.specs.Prelude.{◌≡◌, ◌≢◌, ◌⊎◌, ℕ, ◌<◌, ◌≤◌, Bool, true, false, ◌&&◌, bytes_eq, is_some, List, [], ◌∷◌, ◌++◌, length, Option, Some, None, Result, Ok, Err, IfSome, if◌then◌else◌}
 use Rattle.std.specs.List.{list_any, IsDistinct, AllByRecursion}
 use Rattle.std.specs.Ordering.{eq_by_cmp}
 use Rattle.mt_model.specs.declared.key.Key.{Key}
@@ -12,13 +12,12 @@ use Rattle.mt_chain.specs.Rows.{row_at}
 use Rattle.mt_chain.specs.Puts.{is_same_tag}
 use Rattle.mt_chain.specs.StoreCall.{Contents}
 use Rattle.mt_chain.specs.Store.{Store, Onward}
-use Rattle.mt_top.specs.declared.entity.NewEntity.{NewEntity}
 use Rattle.mt_top.specs.declared.session.SessionEnd.{SessionEnd}
 use Rattle.mt_top.specs.declared.session.SessionEnd.TheVariants.{Input as AtEnd, BadInput}
 use Rattle.mt_top.specs.declared.session.SessionFault.{SessionFault}
 use Rattle.mt_top.specs.declared.session.SessionFault.TheVariants.{ReadFault, WriteFault, StoreFault, NoMemory}
 use Rattle.mt_top.specs.Inserts.{Insert, IsInsert, HasNoInsert, print_insert}
-use Rattle.mt_top.specs.Reading.{Took, Broke}
+use Rattle.mt_top.specs.Reading.{Broke}
 use Rattle.mt_top.specs.Replies.{created_reply, exists_reply, unsupported_reply}
 use Rattle.mt_top.specs.Storing.{marker, use_old, stored}
 

@@ -1,11 +1,10 @@
 -- One turn of a session: one request read, answered and its reply written.
-use Rattle.std.specs.Prelude.{◌≡◌, ◌⊎◌, ℕ, ◌≤◌, true, All, List, [], ◌++◌, Option, Some, None, Result, Ok, Err, IfSome}
+use Rattle.std.specs.Prelude.{◌≡◌, ◌⊎◌, ℕ, ◌≤◌, true, All, List, [], Option, None, Result, Ok, Err, IfSome}
 use Rattle.mt_model.specs.declared.key.Key.{Key}
 use Rattle.mt_model.specs.declared.value.Prop.{Prop}
 use Rattle.mt_model.specs.Key.{key_fault}
 use Rattle.mt_model.specs.Name.{is_plain_name}
 use Rattle.mt_io.specs.Ends.{Input, Output, Rose}
-use Rattle.mt_chain.specs.StoreCall.{Contents}
 use Rattle.mt_chain.specs.Store.{Store, Onward, Same}
 use Rattle.mt_top.specs.declared.entity.NewEntity.{NewEntity}
 use Rattle.mt_top.specs.declared.session.SessionEnd.TheVariants.{Input as AtEnd, BadInput}

@@ -7,6 +7,9 @@ use mt_io::{Sink, Source, send};
 use mt_model::Text;
 use std::alloc::Global;
 
+#[cfg(test)]
+mod tests;
+
 const USAGE: &[u8] = b"usage: mtable session|drill|serve [options]\n";
 
 /// The exit status of a run.

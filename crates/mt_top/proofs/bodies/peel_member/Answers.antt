@@ -1,4 +1,4 @@
-use Rattle.std.proofs.Common.{◌≡◌, ◌++◌, ◌∷◌, sym, ◌∙◌, subst}
+use Rattle.std.proofs.Common.{◌≡◌, ◌++◌, ◌∷◌, sym, ◌∙◌}
 use Rattle.mt_top.specs.Members.{print_text}
 use Rattle.mt_top.proofs.TextLaws.{member_split, name_then}
 use Rattle.mt_top.proofs.bodies.peel_member.Goals as goal

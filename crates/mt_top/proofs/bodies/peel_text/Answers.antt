@@ -1,4 +1,4 @@
-use Rattle.std.proofs.Common.{◌≡◌, sym, subst}
+use Rattle.std.proofs.Common.{sym, subst}
 use Rattle.std.specs.Prelude.{IsUtf8}
 use Rattle.mt_top.proofs.TextLaws.{text_of}
 use Rattle.mt_top.proofs.bodies.peel_text.Goals as goal

@@ -1,4 +1,4 @@
-use Rattle.std.proofs.Common.{◌≡◌, Bool, true, false, List, ℕ, sym, ap, ◌∙◌, codes, subst}
+use Rattle.std.proofs.Common.{List, ℕ, sym, ap, ◌∙◌, codes}
 use Rattle.mt_top.specs.Heads.{is_same}
 use Rattle.mt_top.proofs.RunLaws.{clash}
 use Rattle.mt_top.proofs.LineLaws.{target_of, line_made}

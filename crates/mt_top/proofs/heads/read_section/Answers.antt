@@ -1,8 +1,6 @@
-use Rattle.std.proofs.Common.{◌≡◌, ◌≢◌, ◌<◌, ◌≤◌, ◌+◌, ℕ, List, Option, Some, None, Bool, true, false, refl, sym, ap, subst, arith, ◌∙◌}
-use Rattle.std.specs.Prelude.{unwrap_or}
+use Rattle.std.proofs.Common.{◌≡◌, ◌≤◌, ◌+◌, ℕ, Option, false, refl, sym, subst, arith}
 use Rattle.mt_top.specs.Heads.{line_end}
-use Rattle.mt_top.specs.Peels.{Walked, HasSection, IsKind}
-use Rattle.mt_top.specs.declared.heads.Kind.TheVariants.{Length}
+use Rattle.mt_top.specs.Peels.{Walked, HasSection}
 use Rattle.mt_top.proofs.RunLaws.{clash}
 use Rattle.mt_top.proofs.SectionLaws.{walk_none, walk_end, walk_stuck, walk_refused, walk_twice, walk_many, walk_plain, walk_length}
 use Rattle.mt_top.proofs.heads.read_section.Goals as goal

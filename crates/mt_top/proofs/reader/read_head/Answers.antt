@@ -1,4 +1,4 @@
-use Rattle.std.proofs.Common.{◌≡◌, ◌-◌, ◌≤◌, ℕ, length, None, Ok, sym, ap, ◌∙◌, arith}
+use Rattle.std.proofs.Common.{◌≡◌, ◌-◌, ◌≤◌, ℕ, length, None, Ok, ap, ◌∙◌, arith}
 use Rattle.mt_top.specs.HeadEnds.{head_end}
 use Rattle.mt_top.proofs.EndLaws.{scanned_none}
 use Rattle.mt_top.proofs.FillLaws.{reached_none, reached_fill, scan_is, scan_found, scan_on, smaller, missing_long, missing_end, later_fill, head_failed}

@@ -1,4 +1,4 @@
-use Rattle.std.proofs.Common.{sym, subst, refl}
+use Rattle.std.proofs.Common.{subst, refl}
 use Rattle.mt_top.specs.Members.{HasNoEntity}
 use Rattle.mt_top.proofs.InsertLaws.{slice_is}
 use Rattle.mt_top.proofs.reader.take_insert.Goals as goal

@@ -1,4 +1,4 @@
-use Rattle.std.proofs.Common.{◌≡◌, ap, refl}
+use Rattle.std.proofs.Common.{ap}
 use Rattle.mt_chain.specs.declared.query.PkFrom.TheVariants.{From}
 use Rattle.mt_top.proofs.RunningLaws.{looks_shown}
 use Rattle.mt_top.proofs.running.look_into.Goals as goal

@@ -1,4 +1,4 @@
-use Rattle.std.proofs.Common.{◌≡◌, sym, ap, ◌∙◌, List, subst}
+use Rattle.std.proofs.Common.{◌≡◌, ap, ◌∙◌, List}
 use Rattle.mt_model.specs.declared.value.Prop.{Prop}
 use Rattle.mt_top.specs.Replies.{created_reply}
 use Rattle.mt_top.proofs.SessionLaws.{created_answer}

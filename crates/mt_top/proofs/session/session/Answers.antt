@@ -1,6 +1,5 @@
-use Rattle.mt_top.specs.Reading.{ahead}
 use Rattle.std.proofs.Common.{refl}
-use Rattle.mt_top.proofs.SessionLaws.{on_start, go_on, ended, failed, out_of_count}
+use Rattle.mt_top.proofs.SessionLaws.{on_start, go_on, ended, failed}
 use Rattle.mt_top.proofs.session.session.Goals as goal
 
 pub requests-init : goal.requests-init

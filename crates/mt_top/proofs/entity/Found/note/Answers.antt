@@ -1,4 +1,3 @@
-use Rattle.mt_top.specs.declared.entity.Found.{Found}
 use Rattle.std.proofs.Common.{refl}
 use Rattle.mt_top.proofs.EntityLaws.{repeated_pk, repeated_rk, property_noted}
 use Rattle.mt_top.proofs.entity.Found.note.Goals as goal
