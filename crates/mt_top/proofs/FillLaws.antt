@@ -11,8 +11,8 @@ use Rattle.mt_top.specs.Inserts.{HasNoInsert, print_insert}
 use Rattle.mt_top.specs.HeadEnds.{head_end, beyond, IsScanned}
 use Rattle.mt_top.specs.Members.{HasNoEntity}
 use Rattle.mt_top.specs.Peels.{HasHead, HasNoHead}
-use Rattle.mt_top.specs.Reading.{ahead, Later, Broke, Took, ReadAs, ReadsRequest}
-use Rattle.mt_top.specs.Filling.{Filled, FilledAs, Fills, Reached, IsOther, EndsAt, IsOpened, FellShort, TakesAs, ReadsHead, Waits}
+use Rattle.mt_top.specs.Reading.{IsUnsupported, ahead, Later, Broke, Took, ReadAs, ReadsRequest}
+use Rattle.mt_top.specs.Filling.{Filled, FilledAs, Fills, Reached, EndsAt, IsOpened, FellShort, TakesAs, ReadsHead, Waits}
 use Rattle.mt_top.proofs.EndLaws.{scanned_grows, scanned_is, scanned_all}
 use Rattle.mt_top.proofs.InsertLaws.{no_end, late_end, wrong_head, end_grows, end_long, opened_grows, short_body, wrong_body, within_grows, insert_made, opening_short, opening_small}
 
@@ -108,7 +108,7 @@ some_of : (kept : List ℕ) (n : ℕ) → head_end kept ≡ Some n → (xs : Lis
 some_of kept n e xs = omega (arith, (end_long kept n e).0, length-append kept xs)
 
 -- no head ends within the limit
-pub missing_long : (kept : List ℕ) (s : Input) (kept' : List ℕ) (t : Input) → Reached kept s kept' t → head_end kept' ≡ None → 16384 ≤ length kept' → IsOther (ahead kept s)
+pub missing_long : (kept : List ℕ) (s : Input) (kept' : List ℕ) (t : Input) → Reached kept s kept' t → head_end kept' ≡ None → 16384 ≤ length kept' → IsUnsupported (ahead kept s)
 missing_long kept s kept' t r none long =
     let P : List ℕ → Type 0 = λ (all : List ℕ). HasNoInsert all × (0 < length all) in
     subst (λ (k : Option (List ℕ)). IfSome k P) (sym r.same) (if_any P kept' t.left (λ (xs : List ℕ). (late_end kept' none long xs, omega (arith, long, length-append kept' xs))))
@@ -123,7 +123,7 @@ filled_none kept s kept' t f =
     x.grew ∙ ap (λ (v : List ℕ). kept ++ v) (none_more x.got x.long) ∙ append-nil kept
 
 -- the input ends within a head
-pub missing_end : (kept : List ℕ) (s : Input) (kept' : List ℕ) (t : Input) (kept'' : List ℕ) (u : Input) → Reached kept s kept' t → head_end kept' ≡ None → Fills kept' t (Ok 0) kept'' u → length kept'' ≢ 0 → IsOther (ahead kept s)
+pub missing_end : (kept : List ℕ) (s : Input) (kept' : List ℕ) (t : Input) (kept'' : List ℕ) (u : Input) → Reached kept s kept' t → head_end kept' ≡ None → Fills kept' t (Ok 0) kept'' u → length kept'' ≢ 0 → IsUnsupported (ahead kept s)
 missing_end kept s kept' t kept'' u r none f some =
     let x : Filled kept' t 0 kept'' u = f.filled in
     let P : List ℕ → Type 0 = λ (all : List ℕ). HasNoInsert all × (0 < length all) in
@@ -158,7 +158,7 @@ short_broke kept s kept' t n kept'' u r short f =
     }
 
 -- a head that is no insert's
-pub other_head : (kept : List ℕ) (s : Input) (kept' : List ℕ) (t : Input) (n : ℕ) → Reached kept s kept' t → EndsAt kept' n → HasNoHead (take n kept') → IsOther (ahead kept s)
+pub other_head : (kept : List ℕ) (s : Input) (kept' : List ℕ) (t : Input) (n : ℕ) → Reached kept s kept' t → EndsAt kept' n → HasNoHead (take n kept') → IsUnsupported (ahead kept s)
 other_head kept s kept' t n r e none =
     let P : List ℕ → Type 0 = λ (all : List ℕ). HasNoInsert all × (0 < length all) in
     subst (λ (k : Option (List ℕ)). IfSome k P) (sym r.same)
@@ -166,7 +166,7 @@ other_head kept s kept' t n r e none =
     (wrong_head (kept' ++ xs) n (end_grows kept' xs n e.end) (subst HasNoHead (sym (take-append-le n kept' xs e.within)) none), some_of kept' n e.end xs)))
 
 -- a body that the input ends in
-pub other_short : (kept : List ℕ) (s : Input) (head n : ℕ) → IsOpened kept head n → IfSome s.left (λ xs. length (kept ++ xs) < head + n) → IsOther (ahead kept s)
+pub other_short : (kept : List ℕ) (s : Input) (head n : ℕ) → IsOpened kept head n → IfSome s.left (λ xs. length (kept ++ xs) < head + n) → IsUnsupported (ahead kept s)
 other_short kept s head n o short =
     if_map (λ (all : List ℕ). HasNoInsert all × (0 < length all)) (λ (xs : List ℕ). length (kept ++ xs) < head + n) kept s.left
     (λ (xs : List ℕ) (less : length (kept ++ xs) < head + n). (short_body (kept ++ xs) head n (opened_grows kept xs head n o) less, some_of kept head o.ends.end xs)) short
@@ -210,7 +210,7 @@ as_after kept s kept' t (Ok (incoming.Insert v)) known u r a = subst (λ (k : Op
 as_after kept s kept' t (Ok incoming.End) known u r a =
     let P : List ℕ → Type 0 = λ (all : List ℕ). all ≡ [] in
     (r.same ∙ a.0, subst (λ (k : Option (List ℕ)). IfSome k P) (sym r.same) a.1)
-as_after kept s kept' t (Ok incoming.Other) known u r a = subst IsOther (sym r.same) a
+as_after kept s kept' t (Ok incoming.Other) known u r a = subst IsUnsupported (sym r.same) a
 as_after kept s kept' t (Err Failed) known u r a = record { read = a.read; read_is = r.same ∙ a.read_is; none = a.none; cause = rose_after s.faults t.faults u.faults r.later.faults a.cause }
 as_after kept s kept' t (Err NoMemory) known u r a = tt
 

@@ -1,5 +1,5 @@
 -- Steps of reading a request: more bytes come, its head ends, its body is whole.
-use Rattle.std.specs.Prelude.{◌≡◌, ℕ, ◌+◌, ◌^◌, ◌<◌, ◌≤◌, Bool, true, false, List, [], ◌++◌, length, take, drop, Option, Some, Result, Ok, Err, IfSome}
+use Rattle.std.specs.Prelude.{◌≡◌, ℕ, ◌+◌, ◌^◌, ◌<◌, ◌≤◌, Bool, true, false, List, [], ◌++◌, length, take, drop, Some, Result, Ok, Err, IfSome}
 use Rattle.mt_io.specs.Ends.{Input, Rose, before_known}
 use Rattle.mt_top.specs.declared.reader.HeadRead.{HeadRead}
 use Rattle.mt_top.specs.declared.reader.HeadRead.TheVariants.{Ended, Empty, Missing}
@@ -7,11 +7,10 @@ use Rattle.mt_top.specs.declared.reader.Incoming.{Incoming}
 use Rattle.mt_top.specs.declared.reader.Incoming.TheVariants as incoming
 use Rattle.mt_top.specs.declared.reader.ReadFault.{ReadFault}
 use Rattle.mt_top.specs.declared.reader.ReadFault.TheVariants.{Failed, NoMemory}
-use Rattle.mt_top.specs.Inserts.{HasNoInsert}
 use Rattle.mt_top.specs.HeadEnds.{head_end}
 use Rattle.mt_top.specs.Members.{HasEntity, HasNoEntity}
 use Rattle.mt_top.specs.Peels.{HasHead}
-use Rattle.mt_top.specs.Reading.{ahead, Later, Broke}
+use Rattle.mt_top.specs.Reading.{ahead, Later, Broke, IsUnsupported}
 
 -- n bytes more are kept; none only at the end of input
 pub record Filled (kept : List ℕ) (s : Input) (n : ℕ) (kept' : List ℕ) (t : Input) : Type 0 where
@@ -40,10 +39,6 @@ pub record Reached (kept : List ℕ) (s : Input) (kept' : List ℕ) (t : Input) 
   pub more : List ℕ
   pub grew : kept' ≡ kept ++ more
 
--- something is left, and no plain insert stands at its front
-abbrev pub IsOther : Option (List ℕ) → Type 0
-IsOther known = IfSome known (λ all. HasNoInsert all × (0 < length all))
-
 -- the head that stands at the front ends there
 pub record EndsAt (bytes : List ℕ) (n : ℕ) : Type 0 where
   pub end : head_end bytes ≡ Some n
@@ -52,7 +47,7 @@ pub record EndsAt (bytes : List ℕ) (n : ℕ) : Type 0 where
 abbrev pub HeadAs : List ℕ → Input → Result HeadRead ReadFault → List ℕ → Input → Type 0
 HeadAs kept s (Ok (Ended n)) kept' t = Reached kept s kept' t × EndsAt kept' n
 HeadAs kept s (Ok Empty) kept' t = (ahead kept s ≡ ahead kept' t) × IfSome (ahead kept s) (λ all. all ≡ [])
-HeadAs kept s (Ok Missing) kept' t = IsOther (ahead kept s)
+HeadAs kept s (Ok Missing) kept' t = IsUnsupported (ahead kept s)
 HeadAs kept s (Err Failed) kept' t = Broke (ahead kept s) s t
 HeadAs kept s (Err NoMemory) kept' t = Unit {0}
 

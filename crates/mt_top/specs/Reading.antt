@@ -33,10 +33,14 @@ pub record Broke (known : Option (List ℕ)) (s t : Input) : Type 0 where
   pub none : HasNoInsert read
   pub cause : Rose s.faults t.faults
 
+-- something is left, and no whole plain insert stands at its front
+abbrev pub IsUnsupported : Option (List ℕ) → Type 0
+IsUnsupported known = IfSome known (λ all. HasNoInsert all × (0 < length all))
+
 abbrev pub ReadAs : Option (List ℕ) → Input → Result Incoming ReadFault → Option (List ℕ) → Input → Type 0
 ReadAs known s (Ok (incoming.Insert v)) known' t = Took known v known'
 ReadAs known s (Ok incoming.End) known' t = (known ≡ known') × IfSome known (λ all. all ≡ [])
-ReadAs known s (Ok incoming.Other) known' t = IfSome known (λ all. HasNoInsert all × (0 < length all))
+ReadAs known s (Ok incoming.Other) known' t = IsUnsupported known
 ReadAs known s (Err Failed) known' t = Broke known s t
 ReadAs known s (Err NoMemory) known' t = Unit {0}
 

@@ -14,9 +14,9 @@ use Rattle.mt_top.specs.declared.session.SessionEnd.{SessionEnd}
 use Rattle.mt_top.specs.declared.session.SessionEnd.TheVariants as session_end
 use Rattle.mt_top.specs.declared.session.SessionFault.{SessionFault}
 use Rattle.mt_top.specs.declared.session.SessionFault.TheVariants as session_fault
-use Rattle.mt_top.specs.Reading.{Broke}
+use Rattle.mt_top.specs.Reading.{Broke, IsUnsupported}
 use Rattle.mt_top.specs.Replies.{unsupported_reply}
-use Rattle.mt_top.specs.Session.{Exchange, bytes_of, written_of, AreInserts, IsFresh, Fits, Sent, Cut, IsUnsupported}
+use Rattle.mt_top.specs.Session.{Exchange, bytes_of, written_of, AreInserts, IsFresh, Fits, Sent, Cut}
 use Rattle.mt_io.specs.Ends.{before_known}
 
 -- the one word `session`

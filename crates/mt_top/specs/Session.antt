@@ -1,5 +1,5 @@
 -- A connection of plain inserts: what each is answered, by one reference table, and what the old store then holds.
-use Rattle.std.specs.Prelude.{◌≡◌, ◌≢◌, ◌⊎◌, ℕ, ◌<◌, ◌≤◌, Bool, true, false, ◌&&◌, bytes_eq, is_some, List, [], ◌∷◌, ◌++◌, length, Option, Some, None, Result, Ok, Err, IfSome, if◌then◌else◌}
+use Rattle.std.specs.Prelude.{◌≡◌, ◌≢◌, ◌⊎◌, ℕ, ◌≤◌, Bool, true, false, ◌&&◌, bytes_eq, is_some, List, [], ◌∷◌, ◌++◌, Option, Some, None, Result, Ok, Err, IfSome, if◌then◌else◌}
 use Rattle.std.specs.List.{list_any, IsDistinct, AllByRecursion}
 use Rattle.std.specs.Ordering.{eq_by_cmp}
 use Rattle.mt_model.specs.declared.key.Key.{Key}
@@ -16,8 +16,8 @@ use Rattle.mt_top.specs.declared.session.SessionEnd.{SessionEnd}
 use Rattle.mt_top.specs.declared.session.SessionEnd.TheVariants.{Input as AtEnd, BadInput}
 use Rattle.mt_top.specs.declared.session.SessionFault.{SessionFault}
 use Rattle.mt_top.specs.declared.session.SessionFault.TheVariants.{ReadFault, WriteFault, StoreFault, NoMemory}
-use Rattle.mt_top.specs.Inserts.{Insert, IsInsert, HasNoInsert, print_insert}
-use Rattle.mt_top.specs.Reading.{Broke}
+use Rattle.mt_top.specs.Inserts.{Insert, IsInsert, print_insert}
+use Rattle.mt_top.specs.Reading.{Broke, IsUnsupported}
 use Rattle.mt_top.specs.Replies.{created_reply, exists_reply, unsupported_reply}
 use Rattle.mt_top.specs.Storing.{marker, use_old, stored}
 
@@ -139,10 +139,6 @@ pub record Cut (w : Output) (bytes : List ℕ) (x : Output) : Type 0 where
   pub is : bytes ≡ part ++ rest
   pub held : x.held ≡ after_known w.held part
   pub cause : Rose w.faults x.faults
-
--- something is left, and no whole plain insert stands at its front
-abbrev pub IsUnsupported : Option (List ℕ) → Type 0
-IsUnsupported known = IfSome known (λ all. HasNoInsert all × (0 < length all))
 
 -- how a session ends, by its result
 abbrev pub SessionAs : Option (List ℕ) → Input → Output → Store → List Exchange → Option (List ℕ) → Result SessionEnd SessionFault → Input → Output → Store → Type 0

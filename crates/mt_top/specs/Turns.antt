@@ -12,10 +12,10 @@ use Rattle.mt_top.specs.declared.session.SessionFault.{SessionFault}
 use Rattle.mt_top.specs.declared.session.SessionFault.TheVariants.{ReadFault, WriteFault, StoreFault, NoMemory}
 use Rattle.mt_top.specs.declared.session.Turn.{Turn}
 use Rattle.mt_top.specs.declared.session.Turn.TheVariants.{Answered, Ended}
-use Rattle.mt_top.specs.Reading.{Took, Broke}
+use Rattle.mt_top.specs.Reading.{Took, Broke, IsUnsupported}
 use Rattle.mt_top.specs.Replies.{unsupported_reply}
 use Rattle.mt_top.specs.Storing.{Born, Added, WasThere}
-use Rattle.mt_top.specs.Session.{Answer, Created, Exists, reply_to, Sent, Cut, IsUnsupported}
+use Rattle.mt_top.specs.Session.{Answer, Created, Exists, reply_to, Sent, Cut}
 
 -- the entity of an insert: its key meets the rules, and its names are those of properties
 pub record IsNew (v : NewEntity) : Type 0 where
