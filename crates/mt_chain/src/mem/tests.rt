@@ -26,33 +26,41 @@ fn tag(n: u64) -> Tag {
     Tag { store: 0, n }
 }
 
-fn check(alloc: Global, rk: &str, n: u64) -> Result<Put, Fail> {
-    Ok(Put::Check {
-        rk: Text::of(alloc, rk)?,
-        tag: tag(n),
-    })
+/// A put to be made.
+#[derive(Clone, Copy)]
+enum Ask {
+    Check(&'static str, u64),
+    Insert(&'static str, i32),
+    Replace(&'static str, i32, u64),
+    Delete(&'static str, u64),
 }
 
-fn insert(alloc: Global, rk: &str, value: i32) -> Result<Put, Fail> {
-    Ok(Put::Insert {
-        rk: Text::of(alloc, rk)?,
-        props: props(alloc, value)?,
-    })
-}
-
-fn replace(alloc: Global, rk: &str, value: i32, n: u64) -> Result<Put, Fail> {
-    Ok(Put::Replace {
-        rk: Text::of(alloc, rk)?,
-        props: props(alloc, value)?,
-        tag: tag(n),
-    })
-}
-
-fn delete(alloc: Global, rk: &str, n: u64) -> Result<Put, Fail> {
-    Ok(Put::Delete {
-        rk: Text::of(alloc, rk)?,
-        tag: tag(n),
-    })
+fn put_of(alloc: Global, ask: Ask) -> Result<Put, Fail> {
+    match ask {
+        Ask::Check(rk, n) => Ok(Put::Check {
+            rk: Text::of(alloc, rk)?,
+            tag: tag(n),
+        }),
+        Ask::Insert(rk, value) => {
+            let props = props(alloc, value)?;
+            Ok(Put::Insert {
+                rk: Text::of(alloc, rk)?,
+                props,
+            })
+        }
+        Ask::Replace(rk, value, n) => {
+            let props = props(alloc, value)?;
+            Ok(Put::Replace {
+                rk: Text::of(alloc, rk)?,
+                props,
+                tag: tag(n),
+            })
+        }
+        Ask::Delete(rk, n) => Ok(Put::Delete {
+            rk: Text::of(alloc, rk)?,
+            tag: tag(n),
+        }),
+    }
 }
 
 fn one(alloc: Global, put: Put) -> Result<Puts, Fail>
@@ -76,16 +84,21 @@ fn two(alloc: Global, first: Put, second: Put) -> Result<Puts, Fail>
     Ok(Puts::of(list))
 }
 
-fn apply(
+/// What a store answers to these puts, as tags or as the fault.
+fn tried(
     alloc: Global,
     keeper: &mut MemKeeper,
     pk: &str,
-    puts: &Puts,
-) -> Result<Result<Tags, KeepFault>, Fail>
-    requires { CanApply puts.now }
-{
+    first: Ask,
+    second: Option<Ask>,
+) -> Result<String, Fail> {
+    let first = put_of(alloc, first)?;
+    let puts = match second {
+        None => one(alloc, first)?,
+        Some(second) => two(alloc, first, put_of(alloc, second)?)?,
+    };
     let pk = Text::of(alloc, pk)?;
-    Ok(keeper.apply(alloc, &pk, puts))
+    words(alloc, &keeper.apply(alloc, &pk, &puts))
 }
 
 /// What `apply` answered, as tags or as the fault.
@@ -159,12 +172,13 @@ fn answer(alloc: Global, found: &Found) -> Result<String, Fail> {
 /// A store of partition `p` with the rows `m`, `r` and `t`, and of partition `q` with `m`.
 fn filled(alloc: Global, failing: Vec<u64>) -> Result<MemKeeper, Fail> {
     let mut keeper = MemKeeper::new(alloc, 0, failing);
-    let born = two(alloc, insert(alloc, "r", 1)?, insert(alloc, "m", 0)?)?;
-    let _ = apply(alloc, &mut keeper, "p", &born)??;
-    let third = one(alloc, insert(alloc, "t", 2)?)?;
-    let _ = apply(alloc, &mut keeper, "p", &third)??;
-    let other = one(alloc, insert(alloc, "m", 3)?)?;
-    let _ = apply(alloc, &mut keeper, "q", &other)??;
+    for (pk, first, second) in [
+        ("p", Ask::Insert("r", 1), Some(Ask::Insert("m", 0))),
+        ("p", Ask::Insert("t", 2), None),
+        ("q", Ask::Insert("m", 3), None),
+    ] {
+        let _ = tried(alloc, &mut keeper, pk, first, second)?;
+    }
     Ok(keeper)
 }
 
@@ -172,112 +186,160 @@ fn filled(alloc: Global, failing: Vec<u64>) -> Result<MemKeeper, Fail> {
 fn judges_and_makes_puts(rt: HostRuntime) -> Result<(), Fail> {
     let alloc = rt.alloc();
     let mut keeper = MemKeeper::new(alloc, 0, vec![in alloc; 6]?);
-    for (puts, want) in vec![in alloc;
+    for (first, second, want) in [
+        (Ask::Insert("m", 0), Some(Ask::Insert("r", 1)), "0.1 0.2 "),
         (
-            two(alloc, insert(alloc, "m", 0)?, insert(alloc, "r", 1)?)?,
-            "0.1 0.2 "
+            Ask::Insert("s", 0),
+            Some(Ask::Insert("r", 1)),
+            "Unmet { index: 1 }",
         ),
         (
-            two(alloc, insert(alloc, "s", 0)?, insert(alloc, "r", 1)?)?,
-            "Unmet { index: 1 }"
+            Ask::Check("m", 2),
+            Some(Ask::Insert("s", 1)),
+            "Unmet { index: 0 }",
         ),
         (
-            two(alloc, check(alloc, "m", 2)?, insert(alloc, "s", 1)?)?,
-            "Unmet { index: 0 }"
+            Ask::Check("m", 1),
+            Some(Ask::Replace("r", 2, 2)),
+            "0.1 0.3 ",
         ),
-        (
-            two(alloc, check(alloc, "m", 1)?, replace(alloc, "r", 2, 2)?)?,
-            "0.1 0.3 "
-        ),
-        (one(alloc, delete(alloc, "r", 2)?)?, "Unmet { index: 0 }"),
-        (one(alloc, delete(alloc, "r", 3)?)?, "Failed"),
-        (one(alloc, delete(alloc, "r", 3)?)?, "0.3 "),
-        (one(alloc, insert(alloc, "r", 4)?)?, "0.4 "),
-    ]? {
-        let got = apply(alloc, &mut keeper, "p", &puts)?;
-        let got = words(alloc, &got)?;
+        (Ask::Delete("r", 2), None, "Unmet { index: 0 }"),
+        (Ask::Delete("r", 3), None, "Failed"),
+        (Ask::Delete("r", 3), None, "0.3 "),
+        (Ask::Insert("r", 4), None, "0.4 "),
+    ] {
+        let got = tried(alloc, &mut keeper, "p", first, second)?;
         assert!(rt; got.as_str() == want, "{got} for {want}");
     }
     Ok(())
+}
+
+/// Where a range begins.
+#[derive(Clone, Copy)]
+enum Begin {
+    Start,
+    From(&'static str),
+    After(&'static str),
+}
+
+fn start_of(alloc: Global, at: Begin) -> Result<RkFrom, Fail> {
+    match at {
+        Begin::Start => Ok(RkFrom::Start),
+        Begin::From(rk) => Ok(RkFrom::From(Text::of(alloc, rk)?)),
+        Begin::After(rk) => Ok(RkFrom::After(Text::of(alloc, rk)?)),
+    }
+}
+
+/// What a query of a row and of a range finds, as text.
+fn asked(
+    alloc: Global,
+    keeper: &mut MemKeeper,
+    pk: &str,
+    name: &str,
+    range: (Begin, Option<&'static str>, u32),
+) -> Result<String, Fail>
+    requires { 1 ≤ range.2 }
+{
+    let from = start_of(alloc, range.0)?;
+    let upto = match range.1 {
+        None => None,
+        Some(rk) => Some(Text::of(alloc, rk)?),
+    };
+    let query = query(alloc, pk, name, from, upto, range.2)?;
+    answer(alloc, &keeper.query(alloc, &query)?)
 }
 
 #[test]
 fn answers_queries(rt: HostRuntime) -> Result<(), Fail> {
     let alloc = rt.alloc();
     let mut keeper = filled(alloc, Vec::new(alloc))?;
-    for (pk, name, from, upto, limit, want) in vec![in alloc;
+    for (pk, name, at, upto, limit, want) in [
         (
             "p",
             "r",
-            RkFrom::Start,
+            Begin::Start,
             None,
             2,
-            "r=1@1 | m=0@2 r=1@1 | true false"
+            "r=1@1 | m=0@2 r=1@1 | true false",
         ),
         (
             "p",
             "x",
-            RkFrom::From(Text::of(alloc, "r")?),
+            Begin::From("r"),
             None,
             2,
-            "| r=1@1 t=2@3 | false false"
+            "| r=1@1 t=2@3 | false false",
         ),
         (
             "p",
             "m",
-            RkFrom::After(Text::of(alloc, "m")?),
-            Some(Text::of(alloc, "r")?),
+            Begin::After("m"),
+            Some("r"),
             5,
-            "m=0@2 | r=1@1 | false false"
+            "m=0@2 | r=1@1 | false false",
         ),
         (
             "p",
             "t",
-            RkFrom::Start,
-            Some(Text::of(alloc, "a")?),
+            Begin::Start,
+            Some("a"),
             1,
-            "t=2@3 | | false false"
+            "t=2@3 | | false false",
         ),
-        ("q", "r", RkFrom::Start, None, 1, "| m=3@4 | false false"),
-        ("o", "m", RkFrom::Start, None, 1, "| | false false"),
-    ]? {
+        ("q", "r", Begin::Start, None, 1, "| m=3@4 | false false"),
+        ("o", "m", Begin::Start, None, 1, "| | false false"),
+    ] {
         if limit == 0 {
             continue;
         }
-        let query = query(alloc, pk, name, from, upto, limit)?;
-        let found = keeper.query(alloc, &query)?;
-        let got = answer(alloc, &found)?;
+        let got = asked(alloc, &mut keeper, pk, name, (at, upto, limit))?;
         assert!(rt; got.as_str() == want, "{got} for {want}");
     }
     Ok(())
+}
+
+/// The next partition after a place, or the empty text.
+fn next(alloc: Global, keeper: &mut MemKeeper, past: bool, pk: &str) -> Result<Text, Fail> {
+    let pk = Text::of(alloc, pk)?;
+    let at = if past {
+        PkFrom::After(pk)
+    } else {
+        PkFrom::From(pk)
+    };
+    match keeper.next_partition(alloc, &at)?.pk {
+        Some(pk) => Ok(pk),
+        None => Ok(Text::of(alloc, "")?),
+    }
 }
 
 #[test]
 fn walks_partitions_and_seals(rt: HostRuntime) -> Result<(), Fail> {
     let alloc = rt.alloc();
     let mut keeper = filled(alloc, vec![in alloc; 9]?)?;
-    for (at, want) in vec![in alloc;
-        (PkFrom::From(Text::of(alloc, "")?), "p"),
-        (PkFrom::From(Text::of(alloc, "p")?), "p"),
-        (PkFrom::After(Text::of(alloc, "p")?), "q"),
-        (PkFrom::After(Text::of(alloc, "q")?), ""),
-    ]? {
-        let next = keeper.next_partition(alloc, &at)?;
-        let got = match next.pk {
-            Some(pk) => pk,
-            None => Text::of(alloc, "")?,
-        };
-        assert!(rt; got.as_str() == want && !next.sealed, "{got} for {want}");
+    for (past, pk, want) in [
+        (false, "", "p"),
+        (false, "p", "p"),
+        (true, "p", "q"),
+        (true, "q", ""),
+    ] {
+        let got = next(alloc, &mut keeper, past, pk)?;
+        assert!(rt; got.as_str() == want, "{got} for {want}");
     }
     keeper.seal(alloc)?;
     for (pk, want) in [("s", "Failed"), ("s", "Sealed"), ("p", "0.5 ")] {
-        let puts = one(alloc, insert(alloc, "z", 9)?)?;
-        let got = apply(alloc, &mut keeper, pk, &puts)?;
-        let got = words(alloc, &got)?;
+        let got = tried(alloc, &mut keeper, pk, Ask::Insert("z", 9), None)?;
         assert!(rt; got.as_str() == want, "{got} for {want}");
     }
     assert!(rt; keeper.number() == 0 && keeper.counter() == 5);
     Ok(())
+}
+
+/// The insert of one row.
+fn one_insert(alloc: Global) -> Result<Puts, Fail>
+    ensures { IfOk result CanApply }
+{
+    let put = put_of(alloc, Ask::Insert("m", 0))?;
+    one(alloc, put)
 }
 
 #[test]
@@ -287,7 +349,7 @@ fn hands_out_stores(rt: HostRuntime) -> Result<(), Fail> {
     let new = MemKeeper::new(alloc, 1, Vec::new(alloc));
     let mut depot = MemDepot::new(old, new);
     let pk = Text::of(alloc, "p")?;
-    let puts = one(alloc, insert(alloc, "m", 0)?)?;
+    let puts = one_insert(alloc)?;
     let mut keeper = depot.open_store(alloc, 1)?;
     let tags = keeper.apply(alloc, &pk, &puts)?;
     assert!(rt; tags.as_slice() == [Tag { store: 1, n: 1 }].as_slice());
