@@ -1,0 +1,4 @@
+pub mod Kind
+pub mod Guid
+pub mod Value
+pub mod Body
