@@ -1,5 +1,5 @@
 -- What a body gives, stage by stage in the order of its faults.
-use Rattle.std.specs.Prelude.{◌≡◌, ◌⊎◌, ℕ, Bool, true, false, nat_eq, ◌&&◌, ◌||◌, List, [], ◌∷◌, ◌++◌, codes, bytes_eq, Option, None, Some, is_some, option_map, option_and_then, option_to_list, unwrap_or, MatchOption, MatchResult, IsOkAnd, IsPermutation, IsUtf8, if◌then◌else◌}
+use Rattle.std.specs.Prelude.{◌≡◌, ◌⊎◌, ℕ, Bool, true, false, nat_eq, ◌&&◌, ◌||◌, List, [], ◌++◌, codes, bytes_eq, Option, None, Some, is_some, option_map, option_and_then, option_to_list, unwrap_or, MatchOption, MatchResult, IsOkAnd, IsPermutation, IsUtf8, if◌then◌else◌}
 use Rattle.std.specs.List.{starts_with, ends_with}
 use Rattle.std.specs.Option.{option_or}
 use Rattle.std.specs.declared.result.Result.{Result}

@@ -1,5 +1,5 @@
 -- Guids as texts of hexadecimal digits and dashes.
-use Rattle.std.specs.Prelude.{ℕ, ◌+◌, ◌-◌, ◌*◌, ◌%◌, Bool, nat_le, ◌&&◌, ◌||◌, ◌==◌, List, [], ◌∷◌, map, length, slice_index, Option, Some, None, if◌then◌else◌}
+use Rattle.std.specs.Prelude.{ℕ, ◌+◌, ◌-◌, ◌*◌, ◌/◌, ◌%◌, Bool, nat_le, nat_lt, ◌&&◌, ◌||◌, ◌==◌, List, [], ◌∷◌, ◌++◌, map, length, slice_index, Option, Some, None, if◌then◌else◌}
 use Rattle.std.specs.List.{list_all}
 
 -- 0 to 9, A to F and a to f
@@ -34,3 +34,20 @@ is_guid text = (length text == 36) && are_dashes text && list_all (is_pair text)
 -- the 16 bytes of a guid, in the order in which the text shows them
 abbrev pub guid_of : List ℕ → Option (List ℕ)
 guid_of text = if is_guid text then Some (map (byte_at text) places) else None
+
+-- the hexadecimal digit of a number below 16, in lower case
+abbrev pub digit_of : ℕ → ℕ
+digit_of n = if nat_lt n 10 then 48 + n else 87 + n
+
+-- a dash before the bytes 4, 6, 8 and 10
+abbrev pub dash_before : ℕ → List ℕ
+dash_before at = if (at == 4) || (at == 6) || (at == 8) || (at == 10) then 45 ∷ [] else []
+
+-- the text of the bytes from the one with this number on
+abbrev pub text_from : ℕ → List ℕ → List ℕ
+text_from at [] = []
+text_from at (b ∷ bs) = dash_before at ++ digit_of (b / 16) ∷ digit_of (b % 16) ∷ text_from (at + 1) bs
+
+-- the 16 bytes of a guid as 8-4-4-4-12 digits in lower case
+abbrev pub guid_text : List ℕ → List ℕ
+guid_text bytes = text_from 0 bytes

@@ -2,3 +2,4 @@ pub mod Kind
 pub mod Guid
 pub mod Value
 pub mod Body
+pub mod Written

@@ -1,7 +1,9 @@
 //! Guids as texts of 8-4-4-4-12 hexadecimal digits, in the form of RFC 9562.
-ghost use Rattle.std.specs.Prelude.{◌≡◌, ◌<◌, nat_le, Some, MatchOption, None, option_map, ◌&&◌, ◌==◌, slice_index, length};
+ghost use Rattle.std.specs.Prelude.{◌≡◌, ◌<◌, nat_le, Some, MatchOption, None, option_map, ◌&&◌, ◌==◌, slice_index, length, IfOk, OnOk, string_bytes, ◌++◌, ◌∷◌, []};
 ghost use Rattle.std.specs.List.{list_all};
-ghost use Rattle.mt_json.specs.Guid.{is_hex, hex_digit, is_pair, byte_at, is_guid, guid_of, places, are_dashes};
+ghost use Rattle.mt_json.specs.Guid.{is_hex, hex_digit, is_pair, byte_at, is_guid, guid_of, places, are_dashes, digit_of, dash_before, guid_text};
+
+use std::alloc::{AllocError, Global};
 
 /// Where the two digits of each byte stand in the text.
 const PLACES: [usize; 16] = [0, 2, 4, 6, 9, 11, 14, 16, 19, 21, 24, 26, 28, 30, 32, 34];
@@ -96,4 +98,32 @@ pub(crate) fn guid_of(text: &[u8]) -> Option<[u8; 16]>
         byte_at(text, 32),
         byte_at(text, 34),
     ])
+}
+
+/// The hexadecimal digit of a number below 16, in lower case.
+fn digit_of(n: u8) -> char
+    requires { n < 16 }
+    ensures digit { result ≡ digit_of n }
+    ensures ascii { result < 128 }
+{
+    if n < 10 {
+        char::from(b'0' + n)
+    } else {
+        char::from(87 + n)
+    }
+}
+
+/// The text of a guid: 8-4-4-4-12 hexadecimal digits in lower case.
+pub(crate) fn guid_text(alloc: Global, bytes: &[u8]) -> Result<String, AllocError>
+    ensures { IfOk result (λ text. string_bytes text ≡ guid_text bytes.now) }
+{
+    let mut text = String::with_capacity(alloc, 36)?;
+    for (at, byte) in bytes.iter().enumerate() {
+        if (at == 4) | (at == 6) | (at == 8) | (at == 10) {
+            text.push('-')?;
+        }
+        text.push(digit_of(*byte / 16))?;
+        text.push(digit_of(*byte % 16))?;
+    }
+    Ok(text)
 }

@@ -6,5 +6,7 @@ mod kind;
 mod member;
 mod read;
 mod value;
+mod write;
 
 pub use read::{Body, JsonFault, KeyUse, read_entity};
+pub use write::{Level, write_entity};

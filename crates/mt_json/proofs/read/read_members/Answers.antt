@@ -1,4 +1,4 @@
-use Rattle.std.proofs.Common.{◌≡◌, ◌⊎◌, [], ◌∷◌, Err, string_bytes, sym, subst}
+use Rattle.std.proofs.Common.{◌⊎◌, Err, string_bytes, sym, subst}
 use Rattle.serde_json.specs.View.{view, members_view}
 use Rattle.mt_json.specs.Kind.{kind_in}
 use Rattle.mt_json.specs.Body.{Gives, AllGive}

@@ -1,4 +1,4 @@
-use Rattle.std.proofs.Common.{◌≡◌, Some, None, ap, ◌∙◌}
+use Rattle.std.proofs.Common.{ap, ◌∙◌}
 use Rattle.serde_json.specs.View.{view}
 use Rattle.mt_json.specs.Guid.{guid_of}
 use Rattle.mt_json.proofs.ValueLaws.{some_guid, no_guid}
