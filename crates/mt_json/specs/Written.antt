@@ -1,0 +1,95 @@
+-- What is written for an entity: the JSON that `serde_json` prints compactly.
+use Rattle.std.specs.Prelude.{◌≡◌, ◌⊎◌, ℕ, Bool, true, false, ◌&&◌, List, [], ◌∷◌, codes, bytes_eq, Option, None, Some, if◌then◌else◌}
+use Rattle.std.specs.List.{list_any}
+use Rattle.std.specs.Fmt.{signed_decimal}
+use Rattle.base64.specs.Engines.{standard}
+use Rattle.base64.specs.GeneralPurpose.{encode_of}
+use Rattle.serde_json.specs.Data.{Data, boolean, number, string, object, Members, no_members, put}
+use Rattle.serde_json.specs.Find.{of_integer}
+use Rattle.serde_json.specs.Written.{compact_text}
+use Rattle.mt_model.specs.declared.entity.Entity.{Entity}
+use Rattle.mt_model.specs.declared.value.Prop.{Prop}
+use Rattle.mt_model.specs.declared.value.Value.{Value}
+use Rattle.mt_model.specs.declared.value.Value.TheVariants.{Str, Binary, Bool as Boolean, Int32, Int64, Guid, Moment}
+use Rattle.mt_model.specs.Props.{is_visible}
+use Rattle.mt_model.specs.Tag.{tag_text}
+use Rattle.mt_time.specs.Moment.{HasTicksInFull}
+use Rattle.mt_json.specs.declared.write.Level.{Level}
+use Rattle.mt_json.specs.declared.write.Level.TheVariants as level
+use Rattle.mt_json.specs.Guid.{guid_text}
+use Rattle.mt_json.specs.Kind.{type_key}
+use Rattle.mt_json.specs.Body.{Reads}
+
+-- the name of a type that the value alone does not show
+abbrev pub type_name : Value → Option (List ℕ)
+type_name (Str text) = None
+type_name (Boolean b) = None
+type_name (Int32 z) = None
+type_name (Binary bytes) = Some (codes "Edm.Binary")
+type_name (Int64 z) = Some (codes "Edm.Int64")
+type_name (Guid bytes) = Some (codes "Edm.Guid")
+type_name (Moment ticks) = Some (codes "Edm.DateTime")
+
+-- d is written for the value
+abbrev pub Shows : Value → Data → Type 0
+Shows (Str text) d = d ≡ string text
+Shows (Boolean b) d = d ≡ boolean b
+Shows (Int32 z) d = d ≡ number (of_integer z)
+Shows (Binary bytes) d = d ≡ string (encode_of standard bytes)
+Shows (Int64 z) d = d ≡ string (signed_decimal z)
+Shows (Guid bytes) d = d ≡ string (guid_text bytes)
+Shows (Moment ticks) d = (text : List ℕ) × (d ≡ string text) × HasTicksInFull text ticks
+
+-- no names were chosen, or the name is among them
+abbrev pub is_chosen : Option (List (List ℕ)) → List ℕ → Bool
+is_chosen None name = true
+is_chosen (Some names) name = list_any (bytes_eq name) names
+
+-- clients see the property, and it is chosen
+abbrev pub is_shown : Option (List (List ℕ)) → Prop → Bool
+is_shown chosen p = is_visible p && is_chosen chosen p.name
+
+-- the members with one more, where it is chosen
+abbrev pub put_chosen : Option (List (List ℕ)) → List ℕ → List ℕ → Members → Members
+put_chosen chosen name text ms = if is_chosen chosen name then put name (string text) ms else ms
+
+-- the members with the type key of a property, at the level that has type keys and where its value needs one
+abbrev pub put_type : Level → List ℕ → Option (List ℕ) → Members → Members
+put_type level.None name type ms = ms
+put_type level.Minimal name None ms = ms
+put_type level.Minimal name (Some type) ms = put (type_key name) (string type) ms
+
+-- the members with the version's tag, at the level that has it
+abbrev pub put_etag : Level → List ℕ → Members → Members
+put_etag level.None tag ms = ms
+put_etag level.Minimal tag ms = put (codes "odata.etag") (string tag) ms
+
+-- a property that is shown adds its member and its type key, and any other one nothing
+abbrev pub AddsProp : Level → Option (List (List ℕ)) → Prop → Members → Members → Type 0
+AddsProp level chosen p old new =
+    ((is_shown chosen p ≡ false) × (new ≡ old))
+    ⊎ ((is_shown chosen p ≡ true) × ((d : Data) × Shows p.value d × (new ≡ put_type level p.name (type_name p.value) (put p.name d old))))
+
+-- the properties add theirs one after the other
+abbrev pub AddProps : Level → Option (List (List ℕ)) → List Prop → Members → Members → Type 0
+AddProps level chosen [] old new = new ≡ old
+AddProps level chosen (p ∷ ps) old new =
+    (between : Members) × AddsProp level chosen p old between × AddProps level chosen ps between new
+
+-- the keys that are chosen, and the tag
+abbrev pub put_system : Level → Option (List (List ℕ)) → Entity → Members → Members
+put_system level chosen e ms =
+    put_etag level (tag_text e.tag) (put_chosen chosen (codes "RowKey") e.key.rk (put_chosen chosen (codes "PartitionKey") e.key.pk ms))
+
+-- d is the entity's object
+abbrev pub IsObjectOf : Entity → Level → Option (List (List ℕ)) → Data → Type 0
+IsObjectOf e level chosen d =
+    (ms : Members) × AddProps level chosen e.props no_members ms × (d ≡ object (put_system level chosen e ms))
+
+-- the text is the entity's object without blanks, its members in byte order of their names
+abbrev pub IsWritten : Entity → Level → Option (List (List ℕ)) → List ℕ → Type 0
+IsWritten e level chosen text = (d : Data) × IsObjectOf e level chosen d × (text ≡ compact_text d)
+
+-- the text is read as the entity's object
+abbrev pub IsReadAs : Entity → Level → Option (List (List ℕ)) → List ℕ → Type 0
+IsReadAs e level chosen text = (d : Data) × IsObjectOf e level chosen d × Reads text d

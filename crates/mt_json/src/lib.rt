@@ -1,0 +1,12 @@
+//! Entities as JSON objects (RFC 8259), in the form of the Azure Table service's bodies.
+#![tactic(auto)]
+
+mod guid;
+mod kind;
+mod member;
+mod read;
+mod value;
+mod write;
+
+pub use read::{Body, JsonFault, KeyUse, read_entity};
+pub use write::{Level, write_entity};

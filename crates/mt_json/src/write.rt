@@ -1,0 +1,220 @@
+//! From an entity to the text of its JSON object.
+ghost use Rattle.std.specs.Prelude.{◌≡◌, false, IfOk, OnOk, option_map, bytes_eq};
+ghost use Rattle.std.specs.List.{list_any};
+ghost use Rattle.serde_json.specs.View.{view, members_view};
+ghost use Rattle.mt_model.specs.Value.{is_too_large};
+ghost use Rattle.mt_model.specs.Props.{IsProps, too_large_at};
+ghost use Rattle.mt_model.specs.Tag.{tag_text};
+ghost use Rattle.mt_json.specs.Written.{type_name, Shows, is_chosen, is_shown, put_chosen, put_type as with_type, put_etag as with_etag, put_system as with_system, AddsProp, AddProps, IsObjectOf, IsWritten, IsReadAs};
+
+use crate::guid::guid_text;
+use base64::engine::general_purpose::STANDARD;
+use mt_model::{Entity, NoMemory, Prop, Tag, Text, Value};
+use mt_time::print_utc;
+use serde_json::{Map, Value as Json, put};
+use std::alloc::Global;
+
+/// How much a body says beside the properties.
+#[derive(Clone, Copy, Debug, PartialEq, Eq)]
+pub enum Level {
+    /// Names and values alone.
+    None,
+
+    /// The type keys of values that do not show their type, and the tag.
+    Minimal,
+}
+
+/// The name of a type that the value alone does not show.
+fn type_name(value: &Value) -> Option<&'static str>
+    ensures { option_map (λ s. s.now) result ≡ type_name value.now }
+{
+    match value {
+        Value::Str(_) | Value::Bool(_) | Value::Int32(_) => None,
+        Value::Binary(_) => Some("Edm.Binary"),
+        Value::Int64(_) => Some("Edm.Int64"),
+        Value::Guid(_) => Some("Edm.Guid"),
+        Value::Moment(_) => Some("Edm.DateTime"),
+    }
+}
+
+/// What is written for a value.
+fn json_of(alloc: Global, value: &Value) -> Result<Json, NoMemory>
+    requires { is_too_large value.now ≡ false }
+    ensures { IfOk result (λ d. Shows value.now (view d)) }
+{
+    match value {
+        Value::Str(text) => Ok(Json::from(String::from_str(alloc, text.as_str())?)),
+        Value::Bool(b) => Ok(Json::from(*b)),
+        Value::Int32(n) => Ok(Json::from(*n)),
+        Value::Binary(bytes) => Ok(Json::from(STANDARD.encode(alloc, bytes.as_slice())?)),
+        Value::Int64(n) => Ok(Json::from(format!(in alloc; "{n}")?)),
+        Value::Guid(bytes) => Ok(Json::from(guid_text(alloc, bytes)?)),
+        Value::Moment(ticks) => Ok(Json::from(print_utc(alloc, *ticks)?)),
+    }
+}
+
+fn is_among(names: &[Text], name: &str) -> bool
+    ensures { result ≡ list_any (bytes_eq name.now) names.now }
+{
+    names.iter().any(|chosen| name == chosen.as_str())
+}
+
+fn is_chosen(chosen: Option<&Vec<Text>>, name: &str) -> bool
+    ensures { result ≡ is_chosen (option_map (λ v. v.now.items) chosen.entry) name.now }
+{
+    match chosen {
+        None => true,
+        Some(names) => is_among(names.as_slice(), name),
+    }
+}
+
+/// Adds the type key of a property, where it has one.
+fn put_type(
+    members: &mut Map<String, Json>,
+    alloc: Global,
+    level: Level,
+    prop: &Prop,
+) -> Result<(), NoMemory>
+    ensures { OnOk result (members_view members.new.entries
+        ≡ with_type level prop.now.name (type_name prop.now.value) (members_view members.old.entries)) }
+{
+    if matches!(level, Level::None) {
+        return Ok(());
+    }
+    let Some(name) = type_name(&prop.value) else {
+        return Ok(());
+    };
+    let key = format!(in alloc; "{}@odata.type", prop.name.as_str())?;
+    let name = Json::from(String::from_str(alloc, name)?);
+    Ok(put(members, alloc, key.as_str(), name)?)
+}
+
+/// Adds a property, where it is shown.
+fn put_prop(
+    members: &mut Map<String, Json>,
+    alloc: Global,
+    level: Level,
+    chosen: Option<&Vec<Text>>,
+    prop: &Prop,
+) -> Result<(), NoMemory>
+    requires { too_large_at prop.now ≡ false }
+    ensures { OnOk result (AddsProp level (option_map (λ v. v.now.items) chosen.entry) prop.now
+        (members_view members.old.entries) (members_view members.new.entries)) }
+{
+    if !prop.is_visible() {
+        return Ok(());
+    }
+    if !is_chosen(chosen, prop.name.as_str()) {
+        return Ok(());
+    }
+    let value = json_of(alloc, &prop.value)?;
+    put(members, alloc, prop.name.as_str(), value)?;
+    put_type(members, alloc, level, prop)
+}
+
+/// Adds the properties that are shown.
+fn put_props(
+    members: &mut Map<String, Json>,
+    alloc: Global,
+    level: Level,
+    chosen: Option<&Vec<Text>>,
+    props: &[Prop],
+) -> Result<(), NoMemory>
+    requires { IsProps props.now }
+    ensures { OnOk result (AddProps level (option_map (λ v. v.now.items) chosen.entry) props.now
+        (members_view members.old.entries) (members_view members.new.entries)) }
+{
+    for prop in props {
+        put_prop(members, alloc, level, chosen, prop)?;
+    }
+    Ok(())
+}
+
+/// Adds a key, where it is chosen.
+fn put_key(
+    members: &mut Map<String, Json>,
+    alloc: Global,
+    chosen: Option<&Vec<Text>>,
+    name: &str,
+    text: &Text,
+) -> Result<(), NoMemory>
+    ensures { OnOk result (members_view members.new.entries
+        ≡ put_chosen (option_map (λ v. v.now.items) chosen.entry) name.now text.now (members_view members.old.entries)) }
+{
+    if !is_chosen(chosen, name) {
+        return Ok(());
+    }
+    let text = Json::from(String::from_str(alloc, text.as_str())?);
+    Ok(put(members, alloc, name, text)?)
+}
+
+/// Adds the tag, at the level that has it.
+fn put_etag(
+    members: &mut Map<String, Json>,
+    alloc: Global,
+    level: Level,
+    tag: Tag,
+) -> Result<(), NoMemory>
+    ensures { OnOk result (members_view members.new.entries
+        ≡ with_etag level (tag_text tag) (members_view members.old.entries)) }
+{
+    if matches!(level, Level::None) {
+        return Ok(());
+    }
+    let tag = tag.print(alloc)?;
+    let tag = Json::from(String::from_str(alloc, tag.as_str())?);
+    Ok(put(members, alloc, "odata.etag", tag)?)
+}
+
+/// Adds the keys that are chosen, and the tag.
+fn put_system(
+    members: &mut Map<String, Json>,
+    alloc: Global,
+    level: Level,
+    chosen: Option<&Vec<Text>>,
+    entity: &Entity,
+) -> Result<(), NoMemory>
+    ensures { OnOk result (members_view members.new.entries
+        ≡ with_system level (option_map (λ v. v.now.items) chosen.entry) entity.now (members_view members.old.entries)) }
+{
+    put_key(members, alloc, chosen, "PartitionKey", &entity.key.pk)?;
+    put_key(members, alloc, chosen, "RowKey", &entity.key.rk)?;
+    put_etag(members, alloc, level, entity.tag)
+}
+
+fn object_of(
+    alloc: Global,
+    entity: &Entity,
+    level: Level,
+    chosen: Option<&Vec<Text>>,
+) -> Result<Json, NoMemory>
+    ensures { IfOk result (λ v. IsObjectOf entity.now level (option_map (λ v. v.now.items) chosen.entry) (view v)) }
+{
+    let mut members = Map::new(alloc);
+    put_props(&mut members, alloc, level, chosen, entity.props.as_slice())?;
+    put_system(&mut members, alloc, level, chosen, entity)?;
+    Ok(Json::from(members))
+}
+
+/// The text of an entity's JSON object (RFC 8259), without blanks and with its members in byte order of
+/// their names: the visible properties, at `Level::Minimal` the type keys of Edm.Binary, Edm.Int64,
+/// Edm.Guid and Edm.DateTime, then `PartitionKey` and `RowKey`, and at `Level::Minimal` the tag as
+/// `odata.etag`. With `chosen` only the properties and keys of these names are written; the tag stays.
+///
+/// Edm.Int64 is written as a decimal string, Edm.Guid in lower case, Edm.DateTime with seven
+/// decimals, and Edm.Binary in standard base64 with padding (RFC 4648). Strings are escaped as
+/// `serde_json` does. The one error is want of memory.
+pub fn write_entity(
+    alloc: Global,
+    entity: &Entity,
+    level: Level,
+    chosen: Option<&Vec<Text>>,
+) -> Result<Text, NoMemory>
+    ensures written { IfOk result (IsWritten entity.now level (option_map (λ v. v.now.items) chosen.entry)) }
+    // so `serde_json` reads the text as the object that was written
+    ensures reads_back { IfOk result (IsReadAs entity.now level (option_map (λ v. v.now.items) chosen.entry)) }
+{
+    let object = object_of(alloc, entity, level, chosen)?;
+    let text = object.to_string(alloc)?;
+    Ok(Text::from_string(text))
+}
