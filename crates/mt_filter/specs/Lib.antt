@@ -1,2 +1,4 @@
 pub mod Class
+pub mod Lexeme
+pub mod Quoted
 pub mod Tree

@@ -3,5 +3,7 @@
 
 mod classes;
 mod filter;
+mod lexeme;
+mod quoted;
 
 pub use filter::{Compare, Field, Filter, FilterFault, FilterKind};
