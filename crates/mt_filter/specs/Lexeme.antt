@@ -1,8 +1,8 @@
 -- The lexemes of a filter's text, each the longest that begins at its place, and why none begins there.
-use Rattle.std.specs.Prelude.{◌≡◌, ℕ, ◌+◌, ◌^◌, ℤ, pos, negsuc, Bool, true, false, ◌&&◌, ◌||◌, ◌==◌, nat_lt, FitsSigned, List, [], ◌∷◌, length, take, drop, slice_index, Option, Some, None, Result, Ok, Err, MatchOption, MatchResult, if◌then◌else◌}
+use Rattle.std.specs.Prelude.{◌≡◌, ℕ, ◌+◌, ◌≤◌, ◌^◌, ℤ, pos, negsuc, Bool, true, false, ◌&&◌, ◌||◌, ◌==◌, nat_lt, FitsSigned, List, [], ◌∷◌, length, take, drop, slice_index, Option, Some, None, Result, Ok, Err, MatchOption, MatchResult, if◌then◌else◌}
 use Rattle.std.specs.Bool.{MatchBool}
 use Rattle.std.specs.Char.{is_ascii_digit}
-use Rattle.std.specs.Str.{chars}
+use Rattle.std.specs.Str.{chars, IsCharBoundary}
 use Rattle.std.specs.Str.Parse.{IsNumeral, signed_digits_value, without_leading_sign}
 use Rattle.std.proofs.Common.{w64}
 use Rattle.uuid.specs.Text.{parsed_hyphenated}
@@ -21,9 +21,20 @@ use Rattle.mt_filter.specs.declared.lexeme.LexemeKind.{LexemeKind}
 use Rattle.mt_filter.specs.declared.lexeme.LexemeKind.TheVariants.{Open, Close, Word, Text, Binary, Guid, Moment, Int32, Int64}
 use Rattle.mt_filter.specs.declared.lexeme.Lexeme.{Lexeme}
 
--- a lexeme with the place of its inside and its length
-abbrev pub lexeme : LexemeKind → ℕ → ℕ → Lexeme
-lexeme kind inside len = record { kind = kind; inside = inside; len = len }
+-- a lexeme with the places of the part that says its value, and its length
+abbrev pub lexeme : LexemeKind → ℕ → ℕ → ℕ → Lexeme
+lexeme kind from to len = record { kind = kind; from = from; to = to; len = len }
+
+-- a lexeme between quotes, whose inside begins at byte `at`
+abbrev pub quoted_lexeme : LexemeKind → ℕ → List ℕ → Lexeme
+quoted_lexeme kind at inside = lexeme kind at (at + length inside) (at + length inside + 1)
+
+-- a lexeme that a text can be cut at: at its end, and at both ends of the part that says its value
+pub record IsWithin (bs : List ℕ) (x : Lexeme) : Type 0 where
+  pub order : x.from ≤ x.to
+  pub end : IsCharBoundary bs x.len
+  pub from : IsCharBoundary bs x.from
+  pub to : IsCharBoundary bs x.to
 
 -- what the first character begins: ( is 40, ) is 41, ' is 39 and - is 45
 abbrev pub front_of : List ℕ → Front
@@ -38,13 +49,13 @@ front_of (b ∷ bs) =
 
 -- the literal whose quotes have this inside, which begins at byte `at`
 abbrev pub IsInside : Quoted → ℕ → List ℕ → Result Lexeme FilterKind → Type 0
-IsInside InText at inside r = r ≡ Ok (lexeme Text at (at + length inside + 1))
+IsInside InText at inside r = r ≡ Ok (quoted_lexeme Text at inside)
 IsInside InMoment at inside r =
-    MatchResult r (λ x. (ticks : ℤ) × HasTicks inside ticks × (x ≡ lexeme (Moment ticks) at (at + length inside + 1)))
+    MatchResult r (λ x. (ticks : ℤ) × HasTicks inside ticks × (x ≡ quoted_lexeme (Moment ticks) at inside))
     (λ kind. HasNoTicks inside × (kind ≡ Token))
 IsInside InGuid at inside r =
-    MatchOption (parsed_hyphenated inside) (r ≡ Err Token) (λ bytes. r ≡ Ok (lexeme (Guid bytes) at (at + length inside + 1)))
-IsInside InBinary at inside r = r ≡ (if is_hex inside then Ok (lexeme Binary at (at + length inside + 1)) else Err Token)
+    MatchOption (parsed_hyphenated inside) (r ≡ Err Token) (λ bytes. r ≡ Ok (quoted_lexeme (Guid bytes) at inside))
+IsInside InBinary at inside r = r ≡ (if is_hex inside then Ok (quoted_lexeme Binary at inside) else Err Token)
 
 -- the literal whose quotes begin at byte `quote`
 abbrev pub IsQuoted : Quoted → ℕ → List ℕ → Result Lexeme FilterKind → Type 0
@@ -72,7 +83,7 @@ mark_length b = if b then 1 else 0
 -- the whole number of this sign and digits
 abbrev pub IsWhole : Bool → List ℕ → Result Lexeme FilterKind → Type 0
 IsWhole is_long numeral r =
-    MatchResult r (λ x. IsInt64 numeral × (x ≡ lexeme (whole_kind is_long (signed_digits_value 10 numeral)) 0 (length numeral + mark_length is_long)))
+    MatchResult r (λ x. IsInt64 numeral × (x ≡ lexeme (whole_kind is_long (signed_digits_value 10 numeral)) 0 (length numeral + mark_length is_long) (length numeral + mark_length is_long)))
     (λ kind. (IsInt64 numeral → ⊥) × (kind ≡ OutOfRange))
 
 -- what makes the digits before it a literal of Edm.Double: . is 46, e is 101 and E is 69
@@ -112,13 +123,13 @@ quoted_kind word (b ∷ bs) = if b == 39 then quoted_by word else None
 abbrev pub IsWord : List ℕ → Result Lexeme FilterKind → Type 0
 IsWord bs r =
     MatchOption (quoted_kind (take (run_length Letter bs) bs) (drop (run_length Letter bs) bs))
-    (r ≡ Ok (lexeme Word 0 (run_length Letter bs))) (λ kind. IsQuoted kind (run_length Letter bs) bs r)
+    (r ≡ Ok (lexeme Word 0 (run_length Letter bs) (run_length Letter bs))) (λ kind. IsQuoted kind (run_length Letter bs) bs r)
 
 -- by what the first character begins
 abbrev pub IsAtFront : Front → List ℕ → Result Lexeme FilterKind → Type 0
 IsAtFront End bs r = r ≡ Err Expected
-IsAtFront AtOpen bs r = r ≡ Ok (lexeme Open 0 1)
-IsAtFront AtClose bs r = r ≡ Ok (lexeme Close 0 1)
+IsAtFront AtOpen bs r = r ≡ Ok (lexeme Open 0 1 1)
+IsAtFront AtClose bs r = r ≡ Ok (lexeme Close 0 1 1)
 IsAtFront Quote bs r = IsQuoted InText 0 bs r
 IsAtFront Number bs r = IsNumber bs r
 IsAtFront AtWord bs r = IsWord bs r

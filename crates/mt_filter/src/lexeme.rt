@@ -4,7 +4,7 @@ ghost use Rattle.std.specs.Str.{IsCharBoundary, chars};
 ghost use Rattle.mt_model.specs.Name.{begins_name};
 ghost use Rattle.mt_filter.specs.Class.{run_length};
 ghost use Rattle.mt_filter.specs.Quoted.{closing};
-ghost use Rattle.mt_filter.specs.Lexeme.{front_of, IsInside, IsQuoted, IsNumber, IsWhole, IsNumberBefore, IsWord, IsLexeme, sign_length, whole_kind, quoted_kind};
+ghost use Rattle.mt_filter.specs.Lexeme.{front_of, lexeme, IsWithin, IsInside, IsQuoted, IsNumber, IsWhole, IsNumberBefore, IsWord, IsLexeme, sign_length, whole_kind, quoted_kind, mark_length, begins_mark};
 
 use crate::classes::{Class, run_length};
 use crate::filter::FilterKind;
@@ -30,8 +30,12 @@ pub enum LexemeKind {
 pub struct Lexeme {
     pub kind: LexemeKind,
 
-    /// Where the inside of a literal between quotes begins, and 0 for all others.
-    pub inside: usize,
+    /// Where the part begins that says its value: the inside of a literal between quotes, and the
+    /// whole of every other lexeme.
+    pub from: usize,
+
+    /// Where that part ends.
+    pub to: usize,
 
     /// Its bytes.
     pub len: usize,
@@ -47,6 +51,18 @@ enum Front {
     Number,
     Word,
     Nothing,
+}
+
+/// A lexeme of which the whole says its value.
+fn whole(kind: LexemeKind, len: usize) -> Lexeme
+    ensures { result ≡ lexeme kind 0 len len }
+{
+    Lexeme {
+        kind,
+        from: 0,
+        to: len,
+        len,
+    }
 }
 
 fn begins_word(text: &str) -> bool
@@ -80,9 +96,10 @@ fn front_of(text: &str) -> Front
 /// Reads the literal of this inside, which begins at byte `at`.
 fn read_inside(kind: Quoted, inside: &str, at: usize) -> Result<Lexeme, FilterKind>
     requires { at + length inside.now < 2 ^ 63 }
-    ensures { IsInside kind at inside.now result }
+    ensures value { IsInside kind at inside.now result }
+    ensures places { IfOk result (λ x. (x.from ≡ at) × (x.to ≡ at + length inside.now) × (x.len ≡ at + length inside.now + 1)) }
 {
-    let len = at + inside.len() + 1;
+    let to = at + inside.len();
     let kind = match kind {
         Quoted::Text => LexemeKind::Text,
         Quoted::Moment => match read_utc(inside.as_bytes()) {
@@ -102,8 +119,9 @@ fn read_inside(kind: Quoted, inside: &str, at: usize) -> Result<Lexeme, FilterKi
     };
     Ok(Lexeme {
         kind,
-        inside: at,
-        len,
+        from: at,
+        to,
+        len: to + 1,
     })
 }
 
@@ -111,7 +129,8 @@ fn read_inside(kind: Quoted, inside: &str, at: usize) -> Result<Lexeme, FilterKi
 fn read_quoted(text: &str, kind: Quoted, quote: usize) -> Result<Lexeme, FilterKind>
     requires within { quote < length text.now }
     requires quote { slice_index text.now quote ≡ 39 }
-    ensures { IsQuoted kind quote text.now result }
+    ensures value { IsQuoted kind quote text.now result }
+    ensures within { IfOk result (IsWithin text.now) }
 {
     let (_, rest) = text.split_at(quote + 1);
     match closing_quote(rest.as_bytes()) {
@@ -136,16 +155,14 @@ fn whole_kind(is_long: bool, n: i64) -> LexemeKind
 
 /// Reads a whole number of this sign and digits.
 fn read_whole(numeral: &str, is_long: bool) -> Result<Lexeme, FilterKind>
-    ensures { IsWhole is_long numeral.now result }
+    ensures value { IsWhole is_long numeral.now result }
+    ensures places { IfOk result (λ x. (x.from ≡ 0) × (x.to ≡ x.len) × (x.len ≡ length numeral.now + mark_length is_long)) }
 {
     let Ok(n) = numeral.parse::<i64>() else {
         return Err(FilterKind::OutOfRange);
     };
-    Ok(Lexeme {
-        kind: whole_kind(is_long, n),
-        inside: 0,
-        len: numeral.len() + usize::from(is_long),
-    })
+    let len = numeral.len() + usize::from(is_long);
+    Ok(whole(whole_kind(is_long, n), len))
 }
 
 /// How many bytes the sign takes.
@@ -163,7 +180,8 @@ fn sign_length(text: &str) -> usize
 
 /// Reads the number of this sign and digits, before what follows them.
 fn read_number_before(numeral: &str, rest: &str) -> Result<Lexeme, FilterKind>
-    ensures { IsNumberBefore numeral.now rest.now result }
+    ensures value { IsNumberBefore numeral.now rest.now result }
+    ensures places { IfOk result (λ x. (x.from ≡ 0) × (x.to ≡ x.len) × (x.len ≡ length numeral.now + mark_length (begins_mark rest.now))) }
 {
     match rest.as_bytes() {
         [b'.' | b'e' | b'E', ..] => Err(FilterKind::DoubleLiteral),
@@ -173,7 +191,8 @@ fn read_number_before(numeral: &str, rest: &str) -> Result<Lexeme, FilterKind>
 }
 
 fn read_number(text: &str) -> Result<Lexeme, FilterKind>
-    ensures { IsNumber text.now result }
+    ensures value { IsNumber text.now result }
+    ensures within { IfOk result (IsWithin text.now) }
 {
     let sign = sign_length(text);
     let (_, unsigned) = text.split_at(sign);
@@ -196,40 +215,27 @@ fn quoted_kind(word: &str, rest: &str) -> Option<Quoted>
 }
 
 fn read_word(text: &str) -> Result<Lexeme, FilterKind>
-    ensures { IsWord text.now result }
+    ensures value { IsWord text.now result }
+    ensures within { IfOk result (IsWithin text.now) }
 {
     let len = run_length(text, Class::Letter);
     let (word, rest) = text.split_at(len);
     match quoted_kind(word, rest) {
         Some(kind) => read_quoted(text, kind, len),
-        None => Ok(Lexeme {
-            kind: LexemeKind::Word,
-            inside: 0,
-            len,
-        }),
-    }
-}
-
-/// A lexeme that is one character.
-fn mark(kind: LexemeKind) -> Lexeme
-    ensures { result ≡ record { kind = kind; inside = 0; len = 1 } }
-{
-    Lexeme {
-        kind,
-        inside: 0,
-        len: 1,
+        None => Ok(whole(LexemeKind::Word, len)),
     }
 }
 
 /// Reads the lexeme at the front of a text: the longest that begins there. The end of the text is
 /// `Expected`; `Token`, `DoubleLiteral` and `OutOfRange` say why none begins. It takes no memory.
 pub fn read_lexeme(text: &str) -> Result<Lexeme, FilterKind>
-    ensures { IsLexeme text.now result }
+    ensures value { IsLexeme text.now result }
+    ensures within { IfOk result (IsWithin text.now) }
 {
     match front_of(text) {
         Front::End => Err(FilterKind::Expected),
-        Front::Open => Ok(mark(LexemeKind::Open)),
-        Front::Close => Ok(mark(LexemeKind::Close)),
+        Front::Open => Ok(whole(LexemeKind::Open, 1)),
+        Front::Close => Ok(whole(LexemeKind::Close, 1)),
         Front::Quote => read_quoted(text, Quoted::Text, 0),
         Front::Number => read_number(text),
         Front::Word => read_word(text),
