@@ -2,3 +2,4 @@ pub mod Class
 pub mod Lexeme
 pub mod Quoted
 pub mod Tree
+pub mod Words

@@ -5,5 +5,6 @@ mod classes;
 mod filter;
 mod lexeme;
 mod quoted;
+mod words;
 
 pub use filter::{Compare, Field, Filter, FilterFault, FilterKind};
