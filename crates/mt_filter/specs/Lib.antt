@@ -3,3 +3,4 @@ pub mod Lexeme
 pub mod Quoted
 pub mod Tree
 pub mod Words
+pub mod Literal

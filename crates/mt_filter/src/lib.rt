@@ -5,6 +5,7 @@ mod classes;
 mod filter;
 mod lexeme;
 mod quoted;
+mod value;
 mod words;
 
 pub use filter::{Compare, Field, Filter, FilterFault, FilterKind};
