@@ -5,6 +5,8 @@ mod classes;
 mod filter;
 mod lexeme;
 mod quoted;
+#[cfg(test)]
+mod tests;
 mod value;
 mod words;
 
