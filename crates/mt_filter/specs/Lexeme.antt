@@ -1,5 +1,5 @@
 -- The lexemes of a filter's text, each the longest that begins at its place, and why none begins there.
-use Rattle.std.specs.Prelude.{◌≡◌, ℕ, ◌+◌, ◌≤◌, ◌^◌, ℤ, pos, negsuc, Bool, true, false, ◌&&◌, ◌||◌, ◌==◌, nat_lt, FitsSigned, List, [], ◌∷◌, length, take, drop, slice_index, Option, Some, None, Result, Ok, Err, MatchOption, MatchResult, if◌then◌else◌}
+use Rattle.std.specs.Prelude.{◌≡◌, ℕ, ◌+◌, ◌≤◌, ◌^◌, ℤ, pos, negsuc, Bool, true, false, ◌&&◌, ◌||◌, ◌==◌, nat_lt, FitsSigned, List, [], ◌∷◌, length, take, drop, slice_index, slice_range, Option, Some, None, Result, Ok, Err, MatchOption, MatchResult, if◌then◌else◌}
 use Rattle.std.specs.Bool.{MatchBool}
 use Rattle.std.specs.Char.{is_ascii_digit}
 use Rattle.std.specs.Str.{chars, IsCharBoundary}
@@ -138,3 +138,8 @@ IsAtFront Nothing bs r = r ≡ Err Token
 -- the lexeme at the front of a text that does not begin with a blank, or why none begins
 abbrev pub IsLexeme : List ℕ → Result Lexeme FilterKind → Type 0
 IsLexeme bs r = IsAtFront (front_of bs) bs r
+
+-- a lexeme of this kind stands at the front, with the part of the text that says its value and what follows it
+abbrev pub IsNext : List ℕ → LexemeKind → List ℕ → List ℕ → Type 0
+IsNext bs kind part rest =
+    (x : Lexeme) × IsLexeme bs (Ok x) × (kind ≡ x.kind) × (part ≡ slice_range bs x.from x.to) × (rest ≡ drop x.len bs)

@@ -4,6 +4,7 @@
 mod classes;
 mod filter;
 mod lexeme;
+mod next;
 mod quoted;
 #[cfg(test)]
 mod tests;
