@@ -1,0 +1,6 @@
+pub mod TagTexts
+pub mod Markers
+pub mod Marks
+pub mod Overlay
+pub mod Logical
+pub mod Sound

@@ -1,0 +1,10 @@
+//! How a table lies in two stores while its partitions move from the old one to the new one.
+#![tactic(auto)]
+
+mod mark;
+mod marker;
+mod showing;
+
+pub use mark::{Mark, mark_of, seen_tag, stored};
+pub use marker::{NewPhase, Phase, new_marker, new_phase, old_marker, old_phase};
+pub use showing::{Choice, overlay};
