@@ -4,6 +4,8 @@
 mod mark;
 mod marker;
 mod showing;
+#[cfg(test)]
+mod tests;
 
 pub use mark::{Mark, mark_of, seen_tag, stored};
 pub use marker::{NewPhase, Phase, new_marker, new_phase, old_marker, old_phase};
