@@ -1,2 +1,4 @@
 pub mod TextLaws
 pub mod MarkLaws
+pub mod Rules
+pub mod ShownLaws

@@ -1,9 +1,8 @@
 -- What is stored reads back.
-use Rattle.std.proofs.Common.{◌≡◌, ◌≢◌, ℕ, Bool, true, false, not, cond, List, [], ◌∷◌, Option, Some, None, refl, sym, ap, subst, ◌∙◌, option_map}
+use Rattle.std.proofs.Common.{◌≡◌, ◌≢◌, ℕ, Bool, true, false, not, cond, List, [], ◌∷◌, Option, Some, None, refl, ap, ◌∙◌, option_map}
 use Rattle.std.specs.Prelude.{bytes_eq, filter, codes, find, IsPermutation}
 use Rattle.std.proofs.lemmas.List.{nil_from_length}
 use Rattle.std.proofs.lemmas.List.Sorted.{length_permutation}
-use Rattle.mt_model.specs.declared.value.Value.{Value}
 use Rattle.mt_model.specs.declared.value.Prop.{Prop}
 use Rattle.mt_model.specs.declared.tag.Tag.{Tag}
 use Rattle.mt_model.specs.declared.name.Hidden.{Hidden}
@@ -14,9 +13,9 @@ use Rattle.mt_model.specs.Props.{is_visible, value_at, text_of, hidden_text, hid
 use Rattle.mt_model.specs.Merge.{put_prop}
 use Rattle.mt_model.proofs.Merging.{or_false}
 use Rattle.mt_model.proofs.Values.{value_put, hidden_put}
-use Rattle.mt_meta.specs.declared.mark.Mark.TheVariants.{Live, Copy, Tomb}
+use Rattle.mt_meta.specs.declared.mark.Mark.TheVariants.{Live, Copy}
 use Rattle.mt_meta.specs.TagTexts.{read_tag}
-use Rattle.mt_meta.specs.Marks.{copy_named, mark_kind, mark_in, mark_of, stored}
+use Rattle.mt_meta.specs.Marks.{copy_named, mark_of, stored}
 use Rattle.mt_meta.proofs.TextLaws.{read_is, text_read, none_read}
 
 pub no_props : (ps : List Prop) → IsPermutation [] ps → ps ≡ []

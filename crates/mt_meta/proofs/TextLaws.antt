@@ -1,13 +1,13 @@
 -- A tag's text is read back, and no other text is read.
-use Rattle.std.proofs.Common.{◌≡◌, ◌≢◌, ℕ, suc, ◌+◌, ◌<◌, ◌^◌, Bool, true, false, cond, ◌&&◌, ◌==◌, List, [], ◌∷◌, ◌++◌, length, get_or, Option, Some, None, refl, sym, ap, subst, ◌∙◌, arith, decimal, append_assoc}
-use Rattle.std.specs.Prelude.{nat_lt, bytes_eq, drop, MatchOption}
+use Rattle.std.proofs.Common.{◌≡◌, ◌≢◌, ℕ, suc, ◌<◌, ◌^◌, Bool, true, false, cond, ◌&&◌, ◌==◌, List, [], ◌∷◌, ◌++◌, length, get_or, Some, None, refl, sym, ap, subst, ◌∙◌, arith, decimal, append_assoc}
+use Rattle.std.specs.Prelude.{nat_lt, bytes_eq, drop}
 use Rattle.std.specs.Str.Parse.{digits_value}
 use Rattle.std.proofs.lemmas.Bool.{ne_eqb, eq-eqb, lt-ltb, ltb-true}
 use Rattle.std.proofs.lemmas.Slice.Eq.{bytes_eq-Decides}
 use Rattle.std.proofs.lemmas.Fmt.{decimal_is_IsNumeral}
 use Rattle.std.proofs.lemmas.Str.Parse.{digit_at}
 use Rattle.mt_model.specs.declared.tag.Tag.{Tag}
-use Rattle.mt_model.specs.Tag.{framed, tag_text, IsTag}
+use Rattle.mt_model.specs.Tag.{tag_text, IsTag}
 use Rattle.mt_meta.specs.TagTexts.{before, after, spelled, is_tag, read_tag}
 
 -- the byte is not in the list

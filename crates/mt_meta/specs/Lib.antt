@@ -4,3 +4,4 @@ pub mod Marks
 pub mod Overlay
 pub mod Logical
 pub mod Sound
+pub mod Modes

@@ -1,5 +1,5 @@
 -- The table that two stores show as one.
-use Rattle.std.specs.Prelude.{ℕ, Bool, bytes_eq, List, filter, Option, Some, None, if◌then◌else◌}
+use Rattle.std.specs.Prelude.{ℕ, bytes_eq, List, filter, Option, Some, None, option_map, if◌then◌else◌}
 use Rattle.mt_model.specs.declared.tag.Tag.{Tag}
 use Rattle.mt_model.specs.declared.value.Prop.{Prop}
 use Rattle.mt_model.specs.Props.{is_visible}
@@ -12,6 +12,8 @@ use Rattle.mt_meta.specs.declared.marker.NewPhase.{NewPhase}
 use Rattle.mt_meta.specs.declared.marker.NewPhase.TheVariants.{Filling, UseNew}
 use Rattle.mt_meta.specs.declared.mark.Mark.{Mark}
 use Rattle.mt_meta.specs.declared.mark.Mark.TheVariants.{Live, Copy, Tomb}
+use Rattle.mt_meta.specs.declared.showing.Choice.{Choice}
+use Rattle.mt_meta.specs.declared.showing.Choice.TheVariants.{Nothing, OldRow, NewRow}
 use Rattle.mt_meta.specs.Markers.{marker_key, old_phase_of, new_phase_of}
 use Rattle.mt_meta.specs.Marks.{mark_of, seen_tag}
 
@@ -107,6 +109,12 @@ filling_by None row old = None
 abbrev pub from_both : Option Stored → Option Stored → Option Shown
 from_both row None = from_old row
 from_both row (Some entry) = filling_by (mark_of entry.props) entry (from_old row)
+
+-- the row that the overlay chooses, as clients see it
+abbrev pub chosen : Choice → Option Stored → Option Stored → Option Shown
+chosen Nothing row entry = None
+chosen (OldRow tag) row entry = option_map (λ (r : Stored). shown_as r.props tag) row
+chosen (NewRow tag) row entry = option_map (λ (r : Stored). shown_as r.props tag) entry
 
 -- what both markers make of old's row and new's row at a key, by the first line that fits
 abbrev pub row_by : OldState → NewState → Option Stored → Option Stored → Option Shown

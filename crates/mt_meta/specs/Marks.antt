@@ -1,5 +1,5 @@
 -- What a data row of the new store is: a client's write, a copy of old's row, or a tombstone.
-use Rattle.std.specs.Prelude.{ℕ, Bool, bytes_eq, List, [], ◌∷◌, codes, filter, Option, Some, None, option_map, if◌then◌else◌}
+use Rattle.std.specs.Prelude.{ℕ, bytes_eq, List, [], ◌∷◌, codes, filter, Option, Some, None, option_map, if◌then◌else◌}
 use Rattle.mt_model.specs.declared.name.Hidden.TheVariants as hidden
 use Rattle.mt_model.specs.declared.tag.Tag.{Tag}
 use Rattle.mt_model.specs.declared.value.Prop.{Prop}

@@ -1,5 +1,5 @@
 -- Which of two stores' rows clients see while the partition is in the new store's care.
-use Rattle.std.specs.Prelude.{ℕ, List, Option, Some, None}
+use Rattle.std.specs.Prelude.{Option, Some, None}
 use Rattle.mt_model.specs.declared.tag.Tag.{Tag}
 use Rattle.mt_chain.specs.declared.row.StoredRow.{StoredRow}
 use Rattle.mt_meta.specs.declared.marker.NewPhase.{NewPhase}

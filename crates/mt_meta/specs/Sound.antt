@@ -1,5 +1,5 @@
 -- When two stores are a sound pair: eight rules, which every step of every actor keeps.
-use Rattle.std.specs.Prelude.{◌≡◌, ◌≢◌, ◌⊎◌, ℕ, ◌<◌, ◌≤◌, Bool, true, false, List, filter, Option, Some, None}
+use Rattle.std.specs.Prelude.{◌≡◌, ◌≢◌, ◌⊎◌, ℕ, ◌<◌, ◌≤◌, true, false, List, filter, Option, Some, None}
 use Rattle.mt_model.specs.declared.key.KeyPart.TheVariants.{Partition}
 use Rattle.mt_model.specs.declared.tag.Tag.{Tag}
 use Rattle.mt_model.specs.declared.value.Prop.{Prop}
@@ -7,7 +7,7 @@ use Rattle.mt_model.specs.Key.{part_fault, key_fault}
 use Rattle.mt_model.specs.Tag.{IsTag}
 use Rattle.mt_model.specs.Props.{is_visible}
 use Rattle.mt_chain.specs.declared.row.Stored.{Stored}
-use Rattle.mt_chain.specs.Rows.{Rows, row_at}
+use Rattle.mt_chain.specs.Rows.{row_at}
 use Rattle.mt_chain.specs.StoreCall.{Contents}
 use Rattle.mt_meta.specs.declared.marker.Phase.{Phase}
 use Rattle.mt_meta.specs.declared.marker.NewPhase.{NewPhase}
@@ -16,7 +16,7 @@ use Rattle.mt_meta.specs.declared.mark.Mark.{Mark}
 use Rattle.mt_meta.specs.declared.mark.Mark.TheVariants.{Live, Copy, Tomb}
 use Rattle.mt_meta.specs.Markers.{marker_key, marker_props, old_kind, new_kind}
 use Rattle.mt_meta.specs.Marks.{mark_of, stored}
-use Rattle.mt_meta.specs.Logical.{Pair, OldState, NoOld, AtUseOld, AtPreferOld, AtPreferNew, NewState, NoNew, AtFilling, AtUseNew, old_at, new_at, old_state_at, new_state_at}
+use Rattle.mt_meta.specs.Logical.{Pair, NoOld, AtUseOld, AtPreferOld, AtPreferNew, NoNew, AtFilling, AtUseNew, new_at, old_state_at, new_state_at}
 
 -- what the old store keeps as a marker; a store above 0 also has those that an earlier migration left in it
 abbrev pub IsOldMarker : ℕ → List Prop → Type 0
@@ -35,9 +35,6 @@ HasTag Tomb = Unit {0}
 abbrev pub IsEntry : List Prop → Type 0
 IsEntry ps = (mark : Mark) × HasTag mark × (ps ≡ stored mark ps)
 
-abbrev pub IsTomb : List Prop → Type 0
-IsTomb ps = mark_of ps ≡ Some Tomb
-
 -- what the old store keeps as a data row: properties of a client; a store above 0 also has live rows and copies
 abbrev pub IsOldRow : ℕ → List Prop → Type 0
 IsOldRow store ps = (filter is_visible ps ≡ ps) ⊎ ((0 < store) × IsEntry ps × (mark_of ps ≢ Some Tomb))
@@ -55,6 +52,11 @@ AreMarked c = (pk rk : List ℕ) → row_at c.rows pk rk ≢ None → row_at c.r
 abbrev pub IsCopyOrNone : Option Stored → Type 0
 IsCopyOrNone None = Unit {0}
 IsCopyOrNone (Some row) = (tag : Tag) × (mark_of row.props ≡ Some (Copy tag))
+
+-- a row that is there is no tombstone
+abbrev pub NoTomb : Option Stored → Type 0
+NoTomb None = Unit {0}
+NoTomb (Some row) = mark_of row.props ≢ Some Tomb
 
 -- the tags of a store have its number and an n from 1 to its counter, and differ
 pub record AreTags (store : ℕ) (c : Contents) : Type 0 where
@@ -88,7 +90,7 @@ pub record IsSound (p : Pair) : Type 0 where
   -- a partition that old has not, or no more, is in new whole: old can bear it no more, and no tombstone has anything to hide
   pub no_old : (pk : List ℕ) → old_state_at p pk ≡ NoOld
       → ((new_state_at p pk ≡ NoNew) ⊎ ((new_state_at p pk ≡ AtUseNew) × (p.old.sealed ≡ true)))
-      × ((rk : List ℕ) (row : Stored) → new_at p pk rk ≡ Some row → mark_of row.props ≢ Some Tomb)
+      × ((rk : List ℕ) → rk ≢ marker_key → NoTomb (new_at p pk rk))
   -- a tag names one version of one row for ever: a condition that names it holds of that version alone
   pub tags : AreTags p.old_number p.old × AreTags p.new_number p.new × AreKept p p.old_number p.old × AreKept p p.new_number p.new
   -- a sealed new store could take no birth of a partition

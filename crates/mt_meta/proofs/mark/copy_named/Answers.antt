@@ -1,4 +1,4 @@
-use Rattle.std.proofs.Common.{rules, ◌≡◌, ◌≢◌, sym, ◌∙◌, subst, List, ℕ, Bool, true, arith}
+use Rattle.std.proofs.Common.{rules, ◌≡◌, ◌≢◌, sym, ◌∙◌, subst, List, ℕ, true, arith}
 use Rattle.std.specs.Prelude.{bytes_eq, codes}
 use Rattle.mt_model.specs.declared.tag.Tag.{Tag}
 use Rattle.mt_model.specs.Tag.{tag_text, IsTag}
