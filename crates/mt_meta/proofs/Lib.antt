@@ -2,3 +2,5 @@ pub mod TextLaws
 pub mod MarkLaws
 pub mod Rules
 pub mod ShownLaws
+pub mod ModeLaws
+pub mod Growth

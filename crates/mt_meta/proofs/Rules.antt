@@ -229,7 +229,7 @@ rules_at : (p : Pair) (pk rk : List ℕ) → rk ≢ marker_key → IsSoundByMode
     → KeyRules (old_state_at p pk) (new_state_at p pk) p.old.sealed (old_at p pk rk) (new_at p pk rk)
 rules_at p pk rk other h = by_rules (old_state_at p pk) (new_state_at p pk) p.old.sealed (old_at p pk rk) (new_at p pk rk) (h.keys pk rk other)
 
-empty_key : [] ≢ marker_key
+pub empty_key : [] ≢ marker_key
 empty_key e = cc
 
 rules_of : (p : Pair) (pk : List ℕ) → IsSoundByModes p
@@ -237,7 +237,7 @@ rules_of : (p : Pair) (pk : List ℕ) → IsSoundByModes p
 rules_of p pk h = rules_at p pk [] empty_key h
 
 -- the marker's key, or another
-key_cases : (rk : List ℕ) → (rk ≡ marker_key) ⊎ (rk ≢ marker_key)
+pub key_cases : (rk : List ℕ) → (rk ≡ marker_key) ⊎ (rk ≢ marker_key)
 key_cases rk = go (bytes_eq rk marker_key) refl where
   go : (b : Bool) → bytes_eq rk marker_key ≡ b → (rk ≡ marker_key) ⊎ (rk ≢ marker_key)
   go true e = inl (text_true rk marker_key e)

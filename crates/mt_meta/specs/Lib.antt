@@ -5,3 +5,4 @@ pub mod Overlay
 pub mod Logical
 pub mod Sound
 pub mod Modes
+pub mod Facts

@@ -27,6 +27,17 @@ mode_of AtPreferNew AtFilling sealed = Overlaid
 mode_of AtPreferNew AtUseNew sealed = Settled
 mode_of old new sealed = Broken
 
+-- a partition only goes up in this order
+abbrev pub rank : Mode → ℕ
+rank Empty = 0
+rank AtOld = 1
+rank Prepared = 2
+rank Copying = 3
+rank Overlaid = 4
+rank Settled = 5
+rank NewOnly = 6
+rank Broken = 7
+
 abbrev pub mode : Pair → List ℕ → Mode
 mode p pk = mode_of (old_state_at p pk) (new_state_at p pk) p.old.sealed
 

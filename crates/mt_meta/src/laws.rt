@@ -1,5 +1,5 @@
 //! Laws of the definitions: functions that do nothing, and whose clauses are proved.
-ghost use Rattle.std.specs.Prelude.{◌≡◌, ◌≢◌, ◌↔◌, ℕ, List, Option, option_map};
+ghost use Rattle.std.specs.Prelude.{◌≡◌, ◌≢◌, ◌↔◌, ℕ, Bool, true, List, Option, option_map};
 ghost use Rattle.mt_chain.specs.declared.row.Stored.{Stored};
 ghost use Rattle.mt_chain.specs.Rows.{shown};
 ghost use Rattle.mt_meta.specs.declared.marker.NewPhase.{NewPhase};
@@ -8,6 +8,7 @@ ghost use Rattle.mt_meta.specs.Overlay.{overlay};
 ghost use Rattle.mt_meta.specs.Logical.{Pair, logical, old_at, new_at, from_both, from_new, chosen};
 ghost use Rattle.mt_meta.specs.Sound.{IsSound};
 ghost use Rattle.mt_meta.specs.Modes.{IsSoundByModes, mode, shown_in};
+ghost use Rattle.mt_meta.specs.Facts.{Fact, Holds, ApartFrom, Grows};
 
 /// The eight rules of a sound pair are the rules by the mode of each partition.
 pub fn rules_are_modes()
@@ -26,4 +27,11 @@ pub fn overlay_is_logical()
 pub fn logical_by_mode()
     ensures { (p : Pair) (pk rk : List ℕ) → rk ≢ marker_key → IsSound p
         → (logical p pk rk ≡ shown_in (mode p pk) (old_at p pk rk) (new_at p pk rk)) }
+{}
+
+/// What an actor knows of two stores is so after a step of another, where the step keeps what every
+/// step is to keep and the two actors do not share an epoch.
+pub fn facts_are_kept()
+    ensures { (own : List Fact) (p q : Pair) (before after : Bool) → IsSound p → IsSound q → Grows own p q → (before ≡ true → after ≡ true)
+        → (f : Fact) → Holds p before f → ApartFrom f own → Holds q after f }
 {}

@@ -8,7 +8,7 @@ mod showing;
 #[cfg(test)]
 mod tests;
 
-pub use laws::{logical_by_mode, overlay_is_logical, rules_are_modes};
+pub use laws::{facts_are_kept, logical_by_mode, overlay_is_logical, rules_are_modes};
 pub use mark::{Mark, mark_of, seen_tag, stored};
 pub use marker::{NewPhase, Phase, new_marker, new_phase, old_marker, old_phase};
 pub use showing::{Choice, overlay};
