@@ -1,0 +1,6 @@
+pub mod TextLaws
+pub mod MarkLaws
+pub mod Rules
+pub mod ShownLaws
+pub mod ModeLaws
+pub mod Growth

@@ -1,0 +1,14 @@
+//! How a table lies in two stores while its partitions move from the old one to the new one.
+#![tactic(auto)]
+
+mod laws;
+mod mark;
+mod marker;
+mod showing;
+#[cfg(test)]
+mod tests;
+
+pub use laws::{facts_are_kept, logical_by_mode, overlay_is_logical, rules_are_modes};
+pub use mark::{Mark, mark_of, seen_tag, stored};
+pub use marker::{NewPhase, Phase, new_marker, new_phase, old_marker, old_phase};
+pub use showing::{Choice, overlay};
