@@ -12,7 +12,7 @@ use Rattle.mt_model.specs.Name.{is_hidden, hidden_name}
 use Rattle.mt_model.specs.Props.{is_visible, value_at, text_of, hidden_text, hidden_prop}
 use Rattle.mt_model.specs.Merge.{put_prop}
 use Rattle.mt_model.proofs.Merging.{or_false}
-use Rattle.mt_model.proofs.Values.{value_put, hidden_put}
+use Rattle.mt_model.proofs.Values.{value_put, hidden_put, visible_put}
 use Rattle.mt_meta.specs.declared.mark.Mark.TheVariants.{Live, Copy}
 use Rattle.mt_meta.specs.TagTexts.{read_tag}
 use Rattle.mt_meta.specs.Marks.{copy_named, mark_of, stored}
@@ -80,3 +80,19 @@ no_copy false tag e = refl
 
 pub copy_named_none : (kind text : List ℕ) → ((t : Tag) → IsTag t → text ≢ tag_text t) → None ≡ copy_named kind text
 copy_named_none kind text none = no_copy (bytes_eq kind (codes "copy")) (read_tag text) (none_read text none)
+
+visible_once : (b : Bool) (p : Prop) (qs rs : List Prop) → is_visible p ≡ b → filter is_visible qs ≡ rs → filter is_visible (cond b (p ∷ qs) qs) ≡ cond b (p ∷ rs) rs
+visible_once true p qs rs e h = rw (e, h) refl
+visible_once false p qs rs e h = h
+
+visible_twice : (ps : List Prop) → filter is_visible (filter is_visible ps) ≡ filter is_visible ps
+visible_twice [] = refl
+visible_twice (p ∷ ps) = visible_once (is_visible p) p (filter is_visible ps) (filter is_visible ps) refl (visible_twice ps)
+
+-- clients see the same properties of what is stored
+pub live_visible : (ps : List Prop) → filter is_visible (stored Live ps) ≡ filter is_visible ps
+live_visible ps = visible_put hidden.Kind (codes "live") (filter is_visible ps) ∙ visible_twice ps
+
+pub copy_visible : (tag : Tag) (ps : List Prop) → filter is_visible (stored (Copy tag) ps) ≡ filter is_visible ps
+copy_visible tag ps =
+    visible_put hidden.Tag (tag_text tag) (kind_put (codes "copy") ps) ∙ visible_put hidden.Kind (codes "copy") (filter is_visible ps) ∙ visible_twice ps

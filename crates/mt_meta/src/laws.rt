@@ -1,9 +1,14 @@
 //! Laws of the definitions: functions that do nothing, and whose clauses are proved.
-ghost use Rattle.std.specs.Prelude.{◌≡◌, ◌≢◌, ◌↔◌, ℕ, Bool, true, List, Option, option_map};
+ghost use Rattle.std.specs.Prelude.{◌≡◌, ◌≢◌, ◌↔◌, ℕ, Bool, true, List, [], filter, Option, option_map};
+ghost use Rattle.mt_model.specs.declared.tag.Tag.{Tag};
+ghost use Rattle.mt_model.specs.declared.value.Prop.{Prop};
+ghost use Rattle.mt_model.specs.Props.{is_visible};
 ghost use Rattle.mt_chain.specs.declared.row.Stored.{Stored};
 ghost use Rattle.mt_chain.specs.Rows.{shown};
 ghost use Rattle.mt_meta.specs.declared.marker.NewPhase.{NewPhase};
 ghost use Rattle.mt_meta.specs.Markers.{marker_key};
+ghost use Rattle.mt_meta.specs.declared.mark.Mark.{Mark};
+ghost use Rattle.mt_meta.specs.Marks.{stored};
 ghost use Rattle.mt_meta.specs.Overlay.{overlay};
 ghost use Rattle.mt_meta.specs.Logical.{Pair, logical, old_at, new_at, from_both, from_new, chosen};
 ghost use Rattle.mt_meta.specs.Sound.{IsSound};
@@ -34,4 +39,12 @@ pub fn logical_by_mode()
 pub fn facts_are_kept()
     ensures { (own : List Fact) (p q : Pair) (before after : Bool) → IsSound p → IsSound q → Grows own p q → (before ≡ true → after ≡ true)
         → (f : Fact) → Holds p before f → ApartFrom f own → Holds q after f }
+{}
+
+/// Clients see the same properties of what `stored` gives as of what it is given, and none of a
+/// tombstone.
+pub fn stored_shows_the_same()
+    ensures live { (ps : List Prop) → (filter is_visible (stored Mark.Live ps) ≡ filter is_visible ps) }
+    ensures copy { (tag : Tag) (ps : List Prop) → (filter is_visible (stored (Mark.Copy tag) ps) ≡ filter is_visible ps) }
+    ensures tomb { (ps : List Prop) → (filter is_visible (stored Mark.Tomb ps) ≡ []) }
 {}

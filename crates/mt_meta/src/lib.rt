@@ -8,7 +8,9 @@ mod showing;
 #[cfg(test)]
 mod tests;
 
-pub use laws::{facts_are_kept, logical_by_mode, overlay_is_logical, rules_are_modes};
+pub use laws::{
+    facts_are_kept, logical_by_mode, overlay_is_logical, rules_are_modes, stored_shows_the_same,
+};
 pub use mark::{Mark, mark_of, seen_tag, stored};
 pub use marker::{NewPhase, Phase, new_marker, new_phase, old_marker, old_phase};
 pub use showing::{Choice, overlay};
