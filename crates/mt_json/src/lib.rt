@@ -5,6 +5,8 @@ mod guid;
 mod kind;
 mod member;
 mod read;
+#[cfg(test)]
+mod tests;
 mod value;
 mod write;
 
