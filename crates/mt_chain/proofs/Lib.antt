@@ -8,3 +8,4 @@ mod ChangeLaws
 mod AnswerLaws
 mod TagLaws
 mod MemoryLaws
+mod ModelLaws

@@ -7,3 +7,7 @@ pub mod Places
 pub mod Memory
 pub mod Changes
 pub mod MemoryShelf
+pub mod Table
+pub mod Effect
+pub mod Batch
+pub mod Model

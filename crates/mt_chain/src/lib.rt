@@ -4,11 +4,14 @@
 mod depot;
 mod keeper;
 mod mem;
+pub mod model;
+mod op;
 mod query;
 mod row;
 
 pub use depot::{Depot, DepotFault};
 pub use keeper::{KeepFault, Keeper};
 pub use mem::{MemDepot, MemKeeper};
+pub use op::{Cause, Cond, Op, Refusal};
 pub use query::{Found, Next, PkFrom, Range, RangeQuery, RkFrom};
 pub use row::{Put, Puts, Stored, StoredRow, StoredRows, Tags};
