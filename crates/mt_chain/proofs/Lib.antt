@@ -8,4 +8,5 @@ mod ChangeLaws
 mod AnswerLaws
 mod TagLaws
 mod MemoryLaws
+pub mod BatchLaws
 mod ModelLaws

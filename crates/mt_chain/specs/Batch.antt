@@ -1,6 +1,7 @@
 -- What a batch of operations does to a table.
-use Rattle.std.specs.Prelude.{ℕ, ◌+◌, Bool, List, [], ◌∷◌, length, sum_by, Option, Some, None, option_map, Result, Ok, Err}
-use Rattle.std.specs.List.{list_any, find, zip}
+use Rattle.std.specs.Prelude.{◌≡◌, ℕ, ◌+◌, ◌<◌, Bool, List, [], ◌∷◌, map, length, sum_by, Option, Some, None, option_map, Result, Ok, Err}
+use Rattle.std.specs.List.{find, zip, IsDistinct, HoldsAt}
+use Rattle.std.specs.List.Sorted.{IsPermutation}
 use Rattle.std.specs.Option.{option_or}
 use Rattle.std.specs.Ordering.{eq_by_cmp}
 use Rattle.mt_model.specs.declared.key.Key.{Key}
@@ -92,3 +93,19 @@ batch_size ops = sum_by op_size ops
 -- what a batch counts where memory is shared out: 64, and its bytes
 abbrev pub batch_weight : List Op → ℕ
 batch_weight ops = 64 + batch_size ops
+
+-- ---- what a batch needs for its laws
+
+-- no two operations name one key
+abbrev pub AreApart : List Op → Type 0
+AreApart ops = IsDistinct (eq_by_cmp key_cmp) (map op_key ops)
+
+-- the operations and their tags are those of the other batch in some order
+abbrev pub IsReordered : List Op → List Tag → List Op → List Tag → Type 0
+IsReordered ops tags others theirs = (length tags ≡ length ops) × (length theirs ≡ length others) × IsPermutation (zip ops tags) (zip others theirs)
+
+-- the operation at that index refuses with that cause, and none before it refuses
+pub record IsLeast (ops : List Op) (table : Table) (refusal : Refusal) : Type 0 where
+  pub within : refusal.index < length ops
+  pub refuses : HoldsAt (λ op. cause_in table op ≡ Some refusal.cause) ops refusal.index
+  pub others : (i : ℕ) → i < refusal.index → HoldsAt (λ op. cause_in table op ≡ None) ops i

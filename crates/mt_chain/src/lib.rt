@@ -3,6 +3,7 @@
 
 mod depot;
 mod keeper;
+pub mod laws;
 mod mem;
 pub mod model;
 mod op;

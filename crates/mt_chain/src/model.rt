@@ -330,3 +330,6 @@ pub fn apply_batch(
     leave_all(alloc, &mut rows, ops, left)?;
     Ok(Applied { rows, tags })
 }
+
+#[cfg(test)]
+mod tests;
