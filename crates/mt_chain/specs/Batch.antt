@@ -10,11 +10,10 @@ use Rattle.mt_model.specs.Key.{key_cmp}
 use Rattle.mt_model.specs.Props.{visible_size}
 use Rattle.mt_chain.specs.declared.row.Stored.{Stored}
 use Rattle.mt_chain.specs.declared.op.Op.{Op}
-use Rattle.mt_chain.specs.declared.op.Op.TheVariants.{Insert, Replace, Merge, Delete, InsertOrReplace, InsertOrMerge}
 use Rattle.mt_chain.specs.declared.op.Cause.{Cause}
 use Rattle.mt_chain.specs.declared.op.Refusal.{Refusal}
 use Rattle.mt_chain.specs.Table.{Table}
-use Rattle.mt_chain.specs.Effect.{op_key, effect, cause_on, left_by, told_tag}
+use Rattle.mt_chain.specs.Effect.{op_key, op_props, effect, cause_on, left_by, told_tag}
 
 -- ---- refusals
 
@@ -73,18 +72,9 @@ tags_answered ops tags table = []
 
 -- ---- sizes
 
--- the bytes of the visible properties that an operation brings
-abbrev pub props_size : Op → ℕ
-props_size (Insert key props) = visible_size props
-props_size (Replace key props cond) = visible_size props
-props_size (Merge key props cond) = visible_size props
-props_size (Delete key cond) = 0
-props_size (InsertOrReplace key props) = visible_size props
-props_size (InsertOrMerge key props) = visible_size props
-
 -- the bytes of the key and of the properties
 abbrev pub op_size : Op → ℕ
-op_size op = length (op_key op).pk + length (op_key op).rk + props_size op
+op_size op = length (op_key op).pk + length (op_key op).rk + visible_size (op_props op)
 
 -- the bytes of all operations together
 abbrev pub batch_size : List Op → ℕ

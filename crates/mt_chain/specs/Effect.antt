@@ -1,5 +1,5 @@
 -- What one operation does to the row at its key.
-use Rattle.std.specs.Prelude.{ℕ, Bool, true, List, Option, Some, None, option_map, Result, Ok, Err, if◌then◌else◌}
+use Rattle.std.specs.Prelude.{ℕ, Bool, true, List, [], Option, Some, None, option_map, Result, Ok, Err, if◌then◌else◌}
 use Rattle.std.specs.Option.{option_or}
 use Rattle.std.specs.Result.{result_err}
 use Rattle.mt_model.specs.declared.key.Key.{Key}
@@ -24,6 +24,15 @@ op_key (Merge key props cond) = key
 op_key (Delete key cond) = key
 op_key (InsertOrReplace key props) = key
 op_key (InsertOrMerge key props) = key
+
+-- the properties that an operation brings; a delete brings none
+abbrev pub op_props : Op → List Prop
+op_props (Insert key props) = props
+op_props (Replace key props cond) = props
+op_props (Merge key props cond) = props
+op_props (Delete key cond) = []
+op_props (InsertOrReplace key props) = props
+op_props (InsertOrMerge key props) = props
 
 -- a row of that tag meets the condition
 abbrev pub meets : Cond → Tag → Bool

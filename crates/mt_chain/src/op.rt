@@ -1,7 +1,8 @@
 //! Operations on single rows, as a client asks for them.
 ghost use Rattle.std.specs.Prelude.{◌≡◌, ◌^◌, ◌-◌, min, IfOk, IsTrue, ◌↔◌};
-ghost use Rattle.mt_chain.specs.Effect.{op_key};
-ghost use Rattle.mt_chain.specs.Batch.{op_size, props_size};
+ghost use Rattle.mt_model.specs.Props.{visible_size};
+ghost use Rattle.mt_chain.specs.Effect.{op_key, op_props};
+ghost use Rattle.mt_chain.specs.Batch.{op_size};
 
 use mt_model::{Key, NoMemory, Props, Tag};
 use std::alloc::Global;
@@ -72,7 +73,7 @@ impl Op {
 
     /// The bytes of the properties that it brings; a delete brings none.
     fn props_size(&self) -> u64
-        ensures { result ≡ props_size self.now }
+        ensures { result ≡ visible_size (op_props self.now) }
     {
         match self {
             Op::Insert { props, .. }
