@@ -11,6 +11,8 @@ mod next;
 mod quoted;
 mod reader;
 #[cfg(test)]
+mod reader_tests;
+#[cfg(test)]
 mod tests;
 mod value;
 mod words;
