@@ -15,7 +15,7 @@ use Rattle.mt_filter.specs.Begin.{begin_of}
 use Rattle.mt_filter.specs.Literal.{IsValue}
 use Rattle.mt_filter.specs.Tree.{Tree}
 use Rattle.mt_filter.specs.Words.{begins_with_word, after_first_word}
-use Rattle.mt_filter.specs.Grammar.{left, First, token, none, IsFirst, Sought, found, missed, IsSought, IsClosing, IsComparison, Reading, read, bad, word_of, with_operand, negated, closed, IsClosed, tested, IsCompared, IsTest, Part, chain, more, operand, unary, from, Reads, chained, stops, ends, joins, of_or, of_and, nothing, begins, other, not_too_deep, negates, open_too_deep, encloses, too_many, tests, at_end, IsEnded, IsWhole, IsFilter, IsBad}
+use Rattle.mt_filter.specs.Grammar.{left, First, token, none, IsFirst, Sought, found, missed, IsSought, IsClosing, IsComparison, Reading, read, bad, word_of, with_operand, negated, closed, IsClosed, tested, IsCompared, IsTest, Part, chain, more, operand, unary, from, Reads, chained, stops, ends, joins, of_or, of_and, nothing, begins, other, deep_not, negates, deep_open, encloses, too_many, tests, at_end, IsEnded, IsWhole, IsFilter, IsBad}
 use Rattle.mt_filter.proofs.Unique.{IsOne, first_one, sought_one, value_sort, comparison_sort, closing_sort}
 
 -- what goes on from what stands first
@@ -60,9 +60,9 @@ means (of_and n level text r inner) = inner
 means (nothing n level text fault first) = (none fault, first, refl)
 means (begins n level text part rest kind r first goes) = (token kind part rest, first, goes)
 means (other place n level text) = refl
-means (not_too_deep place n level text deep) = inl (deep, refl)
+means (deep_not place n level text deep) = inl (deep, refl)
 means (negates place n level text x few inner) = inr (few, (x, inner, refl))
-means (open_too_deep place n level text deep) = inl (deep, refl)
+means (deep_open place n level text deep) = inl (deep, refl)
 means (encloses place n level text x r few inner close) = inr (few, (x, inner, close))
 means (too_many field place n level text many) = inl (many, refl)
 means (tests field place n level text r few is) = inr (few, is)
@@ -103,10 +103,10 @@ reads_one (begins n level text part rest kind r first goes) b h =
     let same = first_one text m.0 (token kind part rest) m.1 first in
     reads_one goes b (subst (λ (y : First). Starts n text level y b) same m.2)
 reads_one (other place n level text) b h = sym (means h)
-reads_one (not_too_deep place n level text deep) b h = ⊎_elim (λ m. sym m.1) (λ m. absurd (omega (arith, deep, m.0))) (means h)
+reads_one (deep_not place n level text deep) b h = ⊎_elim (λ m. sym m.1) (λ m. absurd (omega (arith, deep, m.0))) (means h)
 reads_one (negates place n level text x few inner) b h =
     ⊎_elim (λ m. absurd (omega (arith, few, m.0))) (λ m. ap negated (reads_one inner m.1.0 m.1.1) ∙ sym m.1.2) (means h)
-reads_one (open_too_deep place n level text deep) b h = ⊎_elim (λ m. sym m.1) (λ m. absurd (omega (arith, deep, m.0))) (means h)
+reads_one (deep_open place n level text deep) b h = ⊎_elim (λ m. sym m.1) (λ m. absurd (omega (arith, deep, m.0))) (means h)
 reads_one (encloses place n level text x r few inner close) b h =
     ⊎_elim (λ m. absurd (omega (arith, few, m.0)))
     (λ m. closed_one m.1.0 r b (subst (λ (y : Reading). IsClosed y r) (reads_one inner m.1.0 m.1.1) close) m.1.2) (means h)

@@ -13,7 +13,7 @@ use Rattle.mt_filter.specs.Class.{run_length}
 use Rattle.mt_filter.specs.Literal.{IsValue}
 use Rattle.mt_filter.specs.Tree.{Tree}
 use Rattle.mt_filter.specs.Words.{skipped, first_word, begins_with_word, after_first_word}
-use Rattle.mt_filter.specs.Grammar.{left, First, token, none, IsFirst, Sought, found, missed, IsSought, IsClosing, IsComparison, Reading, read, bad, word_of, with_operand, negated, closed, IsClosed, tested, IsCompared, IsTest, Part, chain, more, operand, unary, from, Reads, chained, stops, ends, joins, of_or, of_and, nothing, begins, other, not_too_deep, negates, open_too_deep, encloses, too_many, tests, at_end, IsEnded, IsWhole}
+use Rattle.mt_filter.specs.Grammar.{left, First, token, none, IsFirst, Sought, found, missed, IsSought, IsClosing, IsComparison, Reading, read, bad, word_of, with_operand, negated, closed, IsClosed, tested, IsCompared, IsTest, Part, chain, more, operand, unary, from, Reads, chained, stops, ends, joins, of_or, of_and, nothing, begins, other, deep_not, negates, deep_open, encloses, too_many, tests, at_end, IsEnded, IsWhole}
 
 pub left_within : (text : List ℕ) → left text ≤ length text
 left_within text = omega (arith, length-drop (run_length Blank text) text)
@@ -96,9 +96,9 @@ within (nothing n level text fault first) m h = omega (arith, h, left_within tex
 within (begins n level text part rest kind r first goes) m h =
     within goes m (omega (arith, h, left_within text), omega (arith, h, rest_within text part rest kind first))
 within (other place n level text) m h = h.0
-within (not_too_deep place n level text deep) m h = h.0
+within (deep_not place n level text deep) m h = h.0
 within (negates place n level text x shallow inner) m h = negated_within x m (within inner m h.1)
-within (open_too_deep place n level text deep) m h = h.0
+within (deep_open place n level text deep) m h = h.0
 within (encloses place n level text x r shallow inner close) m h = closed_within x r m (within inner m h.1) close
 within (too_many field place n level text many) m h = h.0
 within (tests field place n level text r few is) m h = compared_within field (n + 1) is.0 r m (sought_within IsComparison text is.0 m is.1 h.1) is.2

@@ -22,7 +22,8 @@ use Rattle.mt_filter.specs.declared.lexeme.Lexeme.{Lexeme}
 use Rattle.mt_filter.specs.declared.classes.Class.TheVariants.{Digit, Letter}
 use Rattle.mt_filter.specs.Class.{run_length}
 use Rattle.mt_filter.specs.Words.{skipped}
-use Rattle.mt_filter.specs.Quoted.{closing}
+use Rattle.mt_filter.specs.Quoted.{doubled}
+use Rattle.mt_filter.proofs.Closing.{inside_one}
 use Rattle.mt_filter.specs.Literal.{IsValue}
 use Rattle.mt_filter.specs.Lexeme.{quoted_lexeme, IsInside, IsQuoted, IsWhole, IsNumberBefore, IsNumber, IsWord, IsAtFront, IsLexeme, IsNext, front_of, begins_fraction, begins_mark, digits_length, sign_length, quoted_kind}
 use Rattle.mt_filter.specs.Grammar.{left, First, token, none, IsFirst, Sought, found, missed, IsSought, IsClosing, IsComparison}
@@ -55,14 +56,19 @@ moment_one at inside (Ok x) (Err e) h k = absurd (k.0 h.0 h.1)
 moment_one at inside (Err e) (Ok y) h k = absurd (h.0 k.0 k.1)
 moment_one at inside (Err e) (Err f) h k = ap (λ (z : FilterKind). Err z) (h.1 ∙ sym k.1)
 
-inside_one : (kind : Quoted) (at : ℕ) (inside : List ℕ) → IsOne (IsInside kind at inside)
-inside_one InText at inside = one_equal _
-inside_one InMoment at inside = moment_one at inside
-inside_one InGuid at inside = one_option (parsed_hyphenated inside) _ _ (one_equal _) (λ bytes. one_equal _)
-inside_one InBinary at inside = one_equal _
+literal_one : (kind : Quoted) (at : ℕ) (inside : List ℕ) → IsOne (IsInside kind at inside)
+literal_one InText at inside = one_equal _
+literal_one InMoment at inside = moment_one at inside
+literal_one InGuid at inside = one_option (parsed_hyphenated inside) _ _ (one_equal _) (λ bytes. one_equal _)
+literal_one InBinary at inside = one_equal _
 
 quoted_one : (kind : Quoted) (quote : ℕ) (bs : List ℕ) → IsOne (IsQuoted kind quote bs)
-quoted_one kind quote bs = one_option (closing 0 (drop (quote + 1) bs)) _ _ (one_equal _) (λ end. inside_one kind (quote + 1) (take end (drop (quote + 1) bs)))
+quoted_one kind quote bs a b (inl h) (inl k) =
+    let P : List ℕ → Type 0 = λ inside. IsInside kind (quote + 1) inside a in
+    literal_one kind (quote + 1) (doubled k.0) a b (subst P (inside_one (drop (quote + 1) bs) h.0 k.0 h.1 k.1) h.2) k.2
+quoted_one kind quote bs a b (inl h) (inr k) = absurd (k.0 h.0 h.1)
+quoted_one kind quote bs a b (inr h) (inl k) = absurd (h.0 k.0 k.1)
+quoted_one kind quote bs a b (inr h) (inr k) = h.1 ∙ sym k.1
 
 whole_one : (is_long : Bool) (numeral : List ℕ) → IsOne (IsWhole is_long numeral)
 whole_one is_long numeral (Ok x) (Ok y) h k = ap (λ (z : Lexeme). Ok z) (h.1 ∙ sym k.1)

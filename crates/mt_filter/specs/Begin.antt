@@ -7,6 +7,7 @@ use Rattle.mt_filter.specs.declared.begin.Begin.TheVariants.{Not, Open, Name, Ot
 use Rattle.mt_filter.specs.declared.lexeme.LexemeKind.{LexemeKind}
 use Rattle.mt_filter.specs.declared.lexeme.LexemeKind.TheVariants.{Word, Open as AtOpen, Close, Text, Binary, Guid, Moment, Int32, Int64}
 
+-- a test, if the word is a name
 abbrev pub named : Option Field → Begin
 named (Some field) = Name field
 named None = Other

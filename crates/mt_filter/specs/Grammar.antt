@@ -35,7 +35,7 @@ abbrev pub IsFirst : List ℕ → First → Type 0
 IsFirst text (token kind part rest) = IsNext (skipped text) kind part rest
 IsFirst text (none fault) = IsLexeme (skipped text) (Err fault)
 
--- what came of a search: a value with what follows its token, or a fault with the bytes left from its place on
+-- what came of a search: a value with what follows its token, or a fault with the bytes that remain from its place on
 pub data Sought (A : Type 0) : Type 0 where
   found : A → List ℕ → Sought A
   missed : ℕ → FilterKind → Sought A
@@ -44,8 +44,8 @@ pub data Sought (A : Type 0) : Type 0 where
 abbrev pub IsSought : {A : Type 0} → (LexemeKind → List ℕ → Option A → Type 0) → List ℕ → Sought A → Type 0
 IsSought Has text (found value rest) =
     (kind : LexemeKind) × (part : List ℕ) × IsFirst text (token kind part rest) × Has kind part (Some value)
-IsSought Has text (missed place fault) =
-    (place ≡ left text) × (IsFirst text (none fault)
+IsSought Has text (missed remaining fault) =
+    (remaining ≡ left text) × (IsFirst text (none fault)
     ⊎ ((kind : LexemeKind) × (part : List ℕ) × (rest : List ℕ) × IsFirst text (token kind part rest) × Has kind part None × (fault ≡ Expected)))
 
 -- the comparison that a token names
@@ -60,10 +60,11 @@ comparison_of (Moment ticks) part = None
 comparison_of (Int32 n) part = None
 comparison_of (Int64 n) part = None
 
+-- a token has this comparison, or none
 abbrev pub IsComparison : LexemeKind → List ℕ → Option Compare → Type 0
 IsComparison kind part compare = compare ≡ comparison_of kind part
 
--- a parenthesis that closes
+-- a token is a parenthesis that closes, or is none
 abbrev pub IsClosing : LexemeKind → List ℕ → Option (Unit {0}) → Type 0
 IsClosing Close part o = o ≡ Some tt
 IsClosing Word part o = o ≡ None
@@ -76,7 +77,7 @@ IsClosing (Int32 n) part o = o ≡ None
 IsClosing (Int64 n) part o = o ≡ None
 
 -- what came of reading: a tree, with how many tests were read so far and what follows, or a fault with
--- the bytes left from its place on
+-- the bytes that remain from its place on
 pub data Reading : Type 0 where
   read : Tree → ℕ → List ℕ → Reading
   bad : ℕ → FilterKind → Reading
@@ -94,36 +95,40 @@ joined And f g = and f g
 -- what a chain has come to with its next operand, whose fault is the chain's
 abbrev pub with_operand : Chain → Tree → Reading → Reading
 with_operand chain f (read g n rest) = read (joined chain f g) n rest
-with_operand chain f (bad place fault) = bad place fault
+with_operand chain f (bad remaining fault) = bad remaining fault
 
+-- `not` of what was read
 abbrev pub negated : Reading → Reading
 negated (read f n rest) = read (not f) n rest
-negated (bad place fault) = bad place fault
+negated (bad remaining fault) = bad remaining fault
 
--- what an `or` in parentheses is read as, with the parenthesis that closes it
+-- a tree, if the parenthesis that closes was found
 abbrev pub closed : Tree → ℕ → Sought (Unit {0}) → Reading
 closed f n (found value rest) = read f n rest
-closed f n (missed place fault) = bad place fault
+closed f n (missed remaining fault) = bad remaining fault
 
+-- what an `or` in parentheses is read as, with the parenthesis that closes it
 abbrev pub IsClosed : Reading → Reading → Type 0
-IsClosed (bad place fault) r = r ≡ bad place fault
+IsClosed (bad remaining fault) r = r ≡ bad remaining fault
 IsClosed (read f n text) r = (s : Sought (Unit {0})) × IsSought IsClosing text s × (r ≡ closed f n s)
 
--- the n-th test, after its name: a comparison, and then a literal
+-- the n-th test, if its literal was found
 abbrev pub tested : Field → Compare → ℕ → Sought Value → Reading
 tested field compare n (found value rest) = read (test field compare value) n rest
-tested field compare n (missed place fault) = bad place fault
+tested field compare n (missed remaining fault) = bad remaining fault
 
+-- the n-th test, if its comparison was found, by the literal after it
 abbrev pub IsCompared : Field → ℕ → Sought Compare → Reading → Type 0
-IsCompared field n (missed place fault) r = r ≡ bad place fault
+IsCompared field n (missed remaining fault) r = r ≡ bad remaining fault
 IsCompared field n (found compare text) r = (s : Sought Value) × IsSought IsValue text s × (r ≡ tested field compare n s)
 
+-- the n-th test, after its name: a comparison, and then a literal
 abbrev pub IsTest : Field → ℕ → List ℕ → Reading → Type 0
 IsTest field n text r = (s : Sought Compare) × IsSought IsComparison text s × IsCompared field n s r
 
 -- the parts of the grammar, each before a text that has n tests before it: a chain, what goes on from what
 -- a chain has come to, an operand of a chain, a unary, and what goes on from the token of a unary, which
--- has `place` bytes from it on
+-- has `remaining` bytes from it on
 pub data Part : Type 0 where
   chain : Chain → ℕ → List ℕ → Part
   more : Chain → Reading → Part
@@ -136,7 +141,7 @@ pub data Reads : Part → ℕ → Reading → Type 0 where
   -- a chain is an operand, and what goes on from it
   chained : (c : Chain) (n level : ℕ) (text : List ℕ) (x r : Reading) → Reads (operand c n text) level x → Reads (more c x) level r → Reads (chain c n text) level r
   -- nothing goes on from a fault
-  stops : (c : Chain) (place level : ℕ) (fault : FilterKind) → Reads (more c (bad place fault)) level (bad place fault)
+  stops : (c : Chain) (remaining level : ℕ) (fault : FilterKind) → Reads (more c (bad remaining fault)) level (bad remaining fault)
   -- where the chain's word does not follow, the chain is read
   ends : (c : Chain) (f : Tree) (n level : ℕ) (text : List ℕ) → begins_with_word (word_of c) text ≡ false → Reads (more c (read f n text)) level (read f n text)
   -- where it follows, the next operand is joined with all that stands before it
@@ -149,26 +154,28 @@ pub data Reads : Part → ℕ → Reading → Type 0 where
   -- a unary goes on from its first token
   begins : (n level : ℕ) (text part rest : List ℕ) (kind : LexemeKind) (r : Reading) → IsFirst text (token kind part rest) → Reads (from (begin_of kind part) (left text) n rest) level r → Reads (unary n text) level r
   -- no unary begins with the token
-  other : (place n level : ℕ) (text : List ℕ) → Reads (from Other place n text) level (bad place Expected)
+  other : (remaining n level : ℕ) (text : List ℕ) → Reads (from Other remaining n text) level (bad remaining Expected)
   -- `not` and a unary, of one level more
-  not_too_deep : (place n level : ℕ) (text : List ℕ) → 64 ≤ level → Reads (from Not place n text) level (bad place TooDeep)
-  negates : (place n level : ℕ) (text : List ℕ) (x : Reading) → level < 64 → Reads (unary n text) (level + 1) x → Reads (from Not place n text) level (negated x)
+  deep_not : (remaining n level : ℕ) (text : List ℕ) → 64 ≤ level → Reads (from Not remaining n text) level (bad remaining TooDeep)
+  negates : (remaining n level : ℕ) (text : List ℕ) (x : Reading) → level < 64 → Reads (unary n text) (level + 1) x → Reads (from Not remaining n text) level (negated x)
   -- an `or` in parentheses, of one level more
-  open_too_deep : (place n level : ℕ) (text : List ℕ) → 64 ≤ level → Reads (from Opens place n text) level (bad place TooDeep)
-  encloses : (place n level : ℕ) (text : List ℕ) (x r : Reading) → level < 64 → Reads (chain Or n text) (level + 1) x → IsClosed x r → Reads (from Opens place n text) level r
+  deep_open : (remaining n level : ℕ) (text : List ℕ) → 64 ≤ level → Reads (from Opens remaining n text) level (bad remaining TooDeep)
+  encloses : (remaining n level : ℕ) (text : List ℕ) (x r : Reading) → level < 64 → Reads (chain Or n text) (level + 1) x → IsClosed x r → Reads (from Opens remaining n text) level r
   -- a test, of which there are at most 15
-  too_many : (field : Field) (place n level : ℕ) (text : List ℕ) → 15 ≤ n → Reads (from (Name field) place n text) level (bad place TooManyComparisons)
-  tests : (field : Field) (place n level : ℕ) (text : List ℕ) (r : Reading) → n < 15 → IsTest field (n + 1) text r → Reads (from (Name field) place n text) level r
+  too_many : (field : Field) (remaining n level : ℕ) (text : List ℕ) → 15 ≤ n → Reads (from (Name field) remaining n text) level (bad remaining TooManyComparisons)
+  tests : (field : Field) (remaining n level : ℕ) (text : List ℕ) (r : Reading) → n < 15 → IsTest field (n + 1) text r → Reads (from (Name field) remaining n text) level r
 
--- what a whole text is read as: one `or`, and then its end
+-- after the `or` only the end may stand
 abbrev pub at_end : Tree → ℕ → List ℕ → First → Reading
 at_end f n text (token kind part rest) = bad (left text) Expected
 at_end f n text (none fault) = if left text == 0 then read f n [] else bad (left text) fault
 
+-- what an `or` is read as, with the end after it
 abbrev pub IsEnded : Reading → Reading → Type 0
-IsEnded (bad place fault) r = r ≡ bad place fault
+IsEnded (bad remaining fault) r = r ≡ bad remaining fault
 IsEnded (read f n text) r = (first : First) × IsFirst text first × (r ≡ at_end f n text first)
 
+-- what a whole text is read as: one `or`, and then its end
 abbrev pub IsWhole : List ℕ → Reading → Type 0
 IsWhole text r = (x : Reading) × Reads (chain Or 0 text) 0 x × IsEnded x r
 
@@ -178,4 +185,4 @@ IsFilter text tree = (n : ℕ) × (rest : List ℕ) × IsWhole text (read tree n
 
 -- the text is no filter: what is wrong is first seen at byte `at`
 abbrev pub IsBad : List ℕ → ℕ → FilterKind → Type 0
-IsBad text at fault = (place : ℕ) × IsWhole text (bad place fault) × (at + place ≡ length text)
+IsBad text at fault = (remaining : ℕ) × IsWhole text (bad remaining fault) × (at + remaining ≡ length text)

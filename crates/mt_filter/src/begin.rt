@@ -9,7 +9,7 @@ use mt_model::NoMemory;
 use std::alloc::Global;
 
 /// What a token begins where a unary may stand.
-#[derive(Debug, Drop, PartialEq, Eq)]
+#[derive(Drop)]
 pub enum Begin {
     /// `not`.
     Not,

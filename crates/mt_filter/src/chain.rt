@@ -8,7 +8,7 @@ use mt_model::NoMemory;
 use std::alloc::Global;
 
 /// A chain of operands: `or` between chains of `and`, and `and` between unaries.
-#[derive(Clone, Copy, Debug, PartialEq, Eq)]
+#[derive(Clone, Copy)]
 pub enum Chain {
     Or,
     And,

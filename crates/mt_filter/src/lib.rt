@@ -18,5 +18,5 @@ mod value;
 mod words;
 
 pub use filter::{Compare, Field, Filter, FilterFault, FilterKind};
-pub use laws::one_outcome;
+pub use laws::{one_outcome, quotes_are_doubled};
 pub use reader::read_filter;

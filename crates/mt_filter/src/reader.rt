@@ -24,7 +24,7 @@ const MAX_TESTS: u32 = 15;
 const MAX_LEVELS: u32 = 64;
 
 /// Why reading stopped.
-#[derive(Clone, Copy, Debug, PartialEq, Eq)]
+#[derive(Clone, Copy)]
 enum Halt {
     Bad(Stop),
     NoMemory,

@@ -14,12 +14,12 @@ fn field_word(field: &Field) -> &str {
 
 fn compare_word(compare: Compare) -> &'static str {
     match compare {
-        Compare::Eq => "eq",
-        Compare::Ne => "ne",
-        Compare::Gt => "gt",
-        Compare::Ge => "ge",
-        Compare::Lt => "lt",
-        Compare::Le => "le",
+        Compare::Eq => " eq ",
+        Compare::Ne => " ne ",
+        Compare::Gt => " gt ",
+        Compare::Ge => " ge ",
+        Compare::Lt => " lt ",
+        Compare::Le => " le ",
     }
 }
 
@@ -35,50 +35,62 @@ fn literal_text(alloc: Global, literal: &Value) -> Result<String, Fail> {
     }
 }
 
-/// The filter as a text in which each `not`, `and` and `or` stands before what it joins.
-fn shape(alloc: Global, filter: &Filter) -> Result<String, Fail> {
+/// Writes the filter as a text in which each `not`, `and` and `or` stands before what it joins.
+fn show(alloc: Global, filter: &Filter, out: &mut String) -> Result<(), Fail> {
     match filter {
         Filter::Test {
             field,
             compare,
             literal,
         } => {
-            let (field, compare) = (field_word(field), compare_word(*compare));
-            let literal = literal_text(alloc, literal)?;
-            Ok(format!(in alloc; "{field} {compare} {literal}")?)
+            out.push_str(field_word(field))?;
+            out.push_str(compare_word(*compare))?;
+            out.push_str(literal_text(alloc, literal)?.as_str())?;
         }
         Filter::Not(inner) => {
-            let inner = shape(alloc, inner)?;
-            Ok(format!(in alloc; "not({inner})")?)
+            out.push_str("not(")?;
+            show(alloc, inner, out)?;
+            out.push_str(")")?;
         }
         Filter::And(left, right) => {
-            let left = shape(alloc, left)?;
-            let right = shape(alloc, right)?;
-            Ok(format!(in alloc; "and({left}, {right})")?)
+            out.push_str("and(")?;
+            show(alloc, left, out)?;
+            out.push_str(", ")?;
+            show(alloc, right, out)?;
+            out.push_str(")")?;
         }
         Filter::Or(left, right) => {
-            let left = shape(alloc, left)?;
-            let right = shape(alloc, right)?;
-            Ok(format!(in alloc; "or({left}, {right})")?)
+            out.push_str("or(")?;
+            show(alloc, left, out)?;
+            out.push_str(", ")?;
+            show(alloc, right, out)?;
+            out.push_str(")")?;
         }
     }
+    Ok(())
 }
 
 fn outcome(alloc: Global, text: &str) -> Result<String, Fail> {
     match read_filter(alloc, text) {
-        Ok(filter) => shape(alloc, &filter),
+        Ok(filter) => {
+            let mut out = String::new(alloc);
+            show(alloc, &filter, &mut out)?;
+            Ok(out)
+        }
         Err(FilterFault::Bad { at, kind }) => Ok(format!(in alloc; "{kind:?} at {at}")?),
         Err(FilterFault::NoMemory) => Ok(format!(in alloc; "NoMemory")?),
     }
 }
 
-/// `text`, so many times.
-fn repeated(alloc: Global, text: &str, count: usize) -> Result<String, Fail> {
-    let mut all = String::new(alloc);
-    for _ in 0..count {
-        all.push_str(text)?;
+/// The pieces, each so many times.
+fn joined(alloc: Global, pieces: [(&str, usize); 5]) -> Result<String, Fail> {
+    let mut text = String::new(alloc);
+    for (piece, count) in pieces {
+        for _ in 0..count {
+            text.push_str(piece)?;
+        }
     }
-    Ok(all)
+    Ok(text)
 }
 
 #[test]
@@ -200,59 +212,81 @@ fn refuses(rt: HostRuntime) -> Result<(), Fail> {
     Ok(())
 }
 
-#[test]
-fn counts_tests(rt: HostRuntime) -> Result<(), Fail> {
-    let more = repeated(rt.alloc(), " or A eq 1", 14)?;
-    for (end, want) in [
-        (" or", "Expected at 149"),
-        (" or B eq 2", "TooManyComparisons at 150"),
-        (" or B", "TooManyComparisons at 150"),
-        (" or B @", "TooManyComparisons at 150"),
-        (" or or", "Expected at 150"),
-        (" or true", "Expected at 150"),
-        (" and not (B", "TooManyComparisons at 156"),
-    ] {
-        let text = format!(in rt.alloc(); "A eq 1{more}{end}")?;
-        let got = outcome(rt.alloc(), text.as_str())?;
-        assert!(rt; got.as_str() == want, "{end}: {got}");
-    }
-    let fifteen = format!(in rt.alloc(); "A eq 1{more}")?;
-    assert!(rt; read_filter(rt.alloc(), fifteen.as_str()).is_ok());
-    Ok(())
-}
+const NONE: (&str, usize) = ("", 0);
+
+const TEST: (&str, usize) = ("A eq 1", 1);
+
+const MORE: (&str, usize) = (" or A eq 1", 14);
+
+const OPEN: (&str, usize) = ("(", 64);
+
+const CLOSE: (&str, usize) = (")", 64);
 
 #[test]
-fn counts_levels(rt: HostRuntime) -> Result<(), Fail> {
-    for (open, count, close, want) in [
-        ("(", 64, ")", "A eq 1"),
-        ("(", 65, ")", "TooDeep at 64"),
-        ("(", 16_384, "", "TooDeep at 64"),
-        ("not ", 65, "", "TooDeep at 256"),
-        ("not (", 33, ")", "TooDeep at 160"),
+fn limits(rt: HostRuntime) -> Result<(), Fail> {
+    for (pieces, want) in [
+        (
+            [TEST, (" or A eq 1", 2), NONE, NONE, NONE],
+            "or(or(A eq 1, A eq 1), A eq 1)",
+        ),
+        ([TEST, MORE, (" or", 1), NONE, NONE], "Expected at 149"),
+        (
+            [TEST, MORE, (" or B eq 2", 1), NONE, NONE],
+            "TooManyComparisons at 150",
+        ),
+        (
+            [TEST, MORE, (" or B", 1), NONE, NONE],
+            "TooManyComparisons at 150",
+        ),
+        (
+            [TEST, MORE, (" or B @", 1), NONE, NONE],
+            "TooManyComparisons at 150",
+        ),
+        ([TEST, MORE, (" or or", 1), NONE, NONE], "Expected at 150"),
+        ([TEST, MORE, (" or true", 1), NONE, NONE], "Expected at 150"),
+        (
+            [TEST, MORE, (" and not (B", 1), NONE, NONE],
+            "TooManyComparisons at 156",
+        ),
+        ([OPEN, TEST, CLOSE, NONE, NONE], "A eq 1"),
+        (
+            [OPEN, TEST, (")", 64), (" and ((B eq 2))", 1), NONE],
+            "and(A eq 1, B eq 2)",
+        ),
+        ([("(", 65), TEST, (")", 65), NONE, NONE], "TooDeep at 64"),
+        ([("(", 16_384), NONE, NONE, NONE, NONE], "TooDeep at 64"),
+        ([("not ", 65), TEST, NONE, NONE, NONE], "TooDeep at 256"),
+        (
+            [("not (", 32), TEST, (")", 31), NONE, NONE],
+            "Expected at 197",
+        ),
+        (
+            [("not (", 32), ("not ", 1), TEST, NONE, NONE],
+            "TooDeep at 160",
+        ),
+        (
+            [("n", 256), (" eq 1", 1), NONE, NONE, NONE],
+            "Expected at 0",
+        ),
     ] {
-        let open = repeated(rt.alloc(), open, count)?;
-        let close = repeated(rt.alloc(), close, count)?;
-        let text = format!(in rt.alloc(); "{open}A eq 1{close}")?;
+        let text = joined(rt.alloc(), pieces)?;
         let got = outcome(rt.alloc(), text.as_str())?;
         assert!(rt; got.as_str() == want, "{want}: {got}");
     }
-    let open = repeated(rt.alloc(), "(", 64)?;
-    let close = repeated(rt.alloc(), ")", 64)?;
-    let twice = format!(in rt.alloc(); "{open}A eq 1{close} and {open}B eq 2{close}")?;
-    let got = outcome(rt.alloc(), twice.as_str())?;
-    assert!(rt; got.as_str() == "and(A eq 1, B eq 2)", "{got}");
-    let deep = repeated(rt.alloc(), "not ", 64)?;
-    let text = format!(in rt.alloc(); "{deep}A eq 1")?;
-    assert!(rt; read_filter(rt.alloc(), text.as_str()).is_ok());
     Ok(())
 }
 
 #[test]
-fn bounds_names(rt: HostRuntime) -> Result<(), Fail> {
-    for (count, want) in [(255, true), (256, false)] {
-        let name = repeated(rt.alloc(), "n", count)?;
-        let text = format!(in rt.alloc(); "{name} eq 1")?;
-        assert!(rt; read_filter(rt.alloc(), text.as_str()).is_ok() == want);
+fn within_limits(rt: HostRuntime) -> Result<(), Fail> {
+    for pieces in [
+        [TEST, MORE, NONE, NONE, NONE],
+        [("not ", 64), TEST, NONE, NONE, NONE],
+        [("not (", 32), TEST, (")", 32), NONE, NONE],
+        [OPEN, TEST, CLOSE, (" and ", 1), ("(B eq 2)", 1)],
+        [("n", 255), (" eq 1", 1), NONE, NONE, NONE],
+    ] {
+        let text = joined(rt.alloc(), pieces)?;
+        assert!(rt; read_filter(rt.alloc(), text.as_str()).is_ok(), "{text}");
     }
     Ok(())
 }

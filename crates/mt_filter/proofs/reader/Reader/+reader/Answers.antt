@@ -2,7 +2,7 @@ use Rattle.std.proofs.Common.{◌∙◌, ℕ, ◌<◌, length, List, sym, ap, su
 use Rattle.std.proofs.lemmas.Result.{err_from_is_err_and}
 use Rattle.mt_filter.specs.Tree.{Tree, tree_of}
 use Rattle.mt_filter.specs.Words.{begins_with_word}
-use Rattle.mt_filter.specs.Grammar.{read, bad, Reads, more, chained, stops, negates, other, not_too_deep, open_too_deep, encloses}
+use Rattle.mt_filter.specs.Grammar.{read, bad, Reads, more, chained, stops, negates, other, deep_not, deep_open, encloses}
 use Rattle.mt_filter.proofs.Places.{within, word_passed}
 use Rattle.mt_filter.proofs.Sought.{if_halted, if_expected}
 use Rattle.mt_filter.proofs.Steps.{chain_first, chain_goes, chain_ends, answers_of, or_operand, and_operand, unary_goes, unary_none, negation_read, closed_read, not_closed}
@@ -47,7 +47,7 @@ read_chain-returns t c =
     c.loop-alloc.invariant _ (chain_ends c.args.links (tree_of c.loop-alloc.filter) _ _ _ _ _ _ c.word.ensures test.value test.rest test.tests)
 
 pub read_not-returns-then-level-ge-MAX_LEVELS : goal.read_not-returns-then-level-ge-MAX_LEVELS
-read_not-returns-then-level-ge-MAX_LEVELS t c = not_too_deep _ _ _ _ c.if-level-ge-MAX_LEVELS.true
+read_not-returns-then-level-ge-MAX_LEVELS t c = deep_not _ _ _ _ c.if-level-ge-MAX_LEVELS.true
 
 pub read_not-returns-in_err-inner : goal.read_not-returns-in_err-inner
 read_not-returns-in_err-inner t c =
@@ -67,7 +67,7 @@ pub read_operand-returns-in-And : goal.read_operand-returns-in-And
 read_operand-returns-in-And t c = answers_of _ _ _ c.read_unary.new.self c.read_unary.result (and_operand c.args.links _ _ _ c.in-And.is) c.read_unary.ensures
 
 pub read_parentheses-returns-then-level-ge-MAX_LEVELS : goal.read_parentheses-returns-then-level-ge-MAX_LEVELS
-read_parentheses-returns-then-level-ge-MAX_LEVELS t c = open_too_deep _ _ _ _ c.if-level-ge-MAX_LEVELS.true
+read_parentheses-returns-then-level-ge-MAX_LEVELS t c = deep_open _ _ _ _ c.if-level-ge-MAX_LEVELS.true
 
 pub read_parentheses-returns-in_err-inner : goal.read_parentheses-returns-in_err-inner
 read_parentheses-returns-in_err-inner t c =
