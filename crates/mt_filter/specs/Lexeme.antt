@@ -1,5 +1,5 @@
 -- The lexemes of a filter's text, each the longest that begins at its place, and why none begins there.
-use Rattle.std.specs.Prelude.{◌≡◌, ℕ, ◌+◌, ◌≤◌, ◌^◌, ℤ, pos, negsuc, Bool, true, false, ◌&&◌, ◌||◌, ◌==◌, nat_lt, FitsSigned, List, [], ◌∷◌, length, take, drop, slice_index, slice_range, Option, Some, None, Result, Ok, Err, MatchOption, MatchResult, if◌then◌else◌}
+use Rattle.std.specs.Prelude.{◌≡◌, ℕ, ◌+◌, ◌≤◌, ◌^◌, ◌⊎◌, ℤ, pos, negsuc, Bool, true, false, ◌&&◌, ◌||◌, ◌==◌, nat_lt, FitsSigned, List, [], ◌∷◌, length, take, drop, slice_index, slice_range, Option, Some, None, Result, Ok, Err, MatchOption, MatchResult, if◌then◌else◌}
 use Rattle.std.specs.Bool.{MatchBool}
 use Rattle.std.specs.Char.{is_ascii_digit}
 use Rattle.std.specs.Str.{chars, IsCharBoundary}
@@ -9,7 +9,7 @@ use Rattle.uuid.specs.Text.{parsed_hyphenated}
 use Rattle.mt_model.specs.Name.{begins_name}
 use Rattle.mt_time.specs.Moment.{HasTicks, HasNoTicks}
 use Rattle.mt_filter.specs.Class.{run_length}
-use Rattle.mt_filter.specs.Quoted.{quoted_by, closing, is_hex}
+use Rattle.mt_filter.specs.Quoted.{quoted_by, doubled, Closes, is_hex}
 use Rattle.mt_filter.specs.declared.classes.Class.TheVariants.{Digit, Letter}
 use Rattle.mt_filter.specs.declared.filter.FilterKind.{FilterKind}
 use Rattle.mt_filter.specs.declared.filter.FilterKind.TheVariants.{Token, Expected, DoubleLiteral, OutOfRange}
@@ -57,10 +57,11 @@ IsInside InGuid at inside r =
     MatchOption (parsed_hyphenated inside) (r ≡ Err Token) (λ bytes. r ≡ Ok (quoted_lexeme (Guid bytes) at inside))
 IsInside InBinary at inside r = r ≡ (if is_hex inside then Ok (quoted_lexeme Binary at inside) else Err Token)
 
--- the literal whose quotes begin at byte `quote`
+-- the literal whose quotes begin at byte `quote`, by its inside, or none where no quote ends it
 abbrev pub IsQuoted : Quoted → ℕ → List ℕ → Result Lexeme FilterKind → Type 0
 IsQuoted kind quote bs r =
-    MatchOption (closing 0 (drop (quote + 1) bs)) (r ≡ Err Token) (λ end. IsInside kind (quote + 1) (take end (drop (quote + 1) bs)) r)
+    ((text : List ℕ) × Closes (drop (quote + 1) bs) text × IsInside kind (quote + 1) (doubled text) r)
+    ⊎ (((text : List ℕ) → Closes (drop (quote + 1) bs) text → ⊥) × (r ≡ Err Token))
 
 -- a number of 32 bits
 abbrev pub is_int32 : ℤ → Bool

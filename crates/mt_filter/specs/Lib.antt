@@ -1,6 +1,9 @@
+pub mod Answer
+pub mod Begin
 pub mod Class
+pub mod Grammar
 pub mod Lexeme
+pub mod Literal
 pub mod Quoted
 pub mod Tree
 pub mod Words
-pub mod Literal

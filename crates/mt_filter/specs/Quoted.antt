@@ -1,6 +1,6 @@
 -- Literals between quotes, and what may stand in them.
-use Rattle.std.specs.Prelude.{ℕ, ◌+◌, ◌%◌, Bool, ◌&&◌, ◌||◌, ◌==◌, List, [], ◌∷◌, length, Option, Some, None, codes, bytes_eq, if◌then◌else◌}
-use Rattle.std.specs.List.{list_all}
+use Rattle.std.specs.Prelude.{◌≡◌, ℕ, ◌%◌, Bool, false, ◌&&◌, ◌||◌, ◌==◌, List, [], ◌∷◌, ◌++◌, length, Option, Some, None, codes, bytes_eq, if◌then◌else◌}
+use Rattle.std.specs.List.{flat_map, list_all}
 use Rattle.std.specs.Char.{is_ascii_hexdigit}
 use Rattle.mt_filter.specs.declared.quoted.Quoted.{Quoted}
 use Rattle.mt_filter.specs.declared.quoted.Quoted.TheVariants.{Text, Moment, Guid, Binary}
@@ -13,16 +13,18 @@ quoted_by word =
     else if bytes_eq word (codes "X") || bytes_eq word (codes "binary") then Some Binary
     else None
 
-abbrev mutual
-  -- the place of the quote (39) that ends an inside, of which the rest begins at byte `at`
-  pub closing : ℕ → List ℕ → Option ℕ
-  closing at [] = None
-  closing at (b ∷ bs) = if b == 39 then closing_unless_doubled at bs else closing (at + 1) bs
+-- a text with each of its quotes (39) doubled
+abbrev pub doubled : List ℕ → List ℕ
+doubled text = flat_map (λ c. if c == 39 then 39 ∷ 39 ∷ [] else c ∷ []) text
 
-  -- the same where a quote stands at byte `at`: a doubled quote is a quote of the inside
-  pub closing_unless_doubled : ℕ → List ℕ → Option ℕ
-  closing_unless_doubled at [] = Some at
-  closing_unless_doubled at (b ∷ bs) = if b == 39 then closing (at + 2) bs else Some at
+-- a quote stands first
+abbrev pub begins_quote : List ℕ → Bool
+begins_quote [] = false
+begins_quote (b ∷ bs) = b == 39
+
+-- the inside at the front is this text with its quotes doubled: a quote that no quote follows ends it
+abbrev pub Closes : List ℕ → List ℕ → Type 0
+Closes bs text = (rest : List ℕ) × (bs ≡ doubled text ++ (39 ∷ rest)) × (begins_quote rest ≡ false)
 
 -- hexadecimal digits of either case, two for each byte
 abbrev pub is_hex : List ℕ → Bool

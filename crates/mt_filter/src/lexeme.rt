@@ -3,7 +3,6 @@ ghost use Rattle.std.specs.Prelude.{◌≡◌, ◌+◌, ◌<◌, ◌^◌, IfOk, 
 ghost use Rattle.std.specs.Str.{IsCharBoundary, chars};
 ghost use Rattle.mt_model.specs.Name.{begins_name};
 ghost use Rattle.mt_filter.specs.Class.{run_length};
-ghost use Rattle.mt_filter.specs.Quoted.{closing};
 ghost use Rattle.mt_filter.specs.Lexeme.{front_of, lexeme, IsWithin, IsInside, IsQuoted, IsNumber, IsWhole, IsNumberBefore, IsWord, IsLexeme, sign_length, whole_kind, quoted_kind, mark_length, begins_mark};
 
 use crate::classes::{Class, run_length};

@@ -1,8 +1,8 @@
 //! Literals between quotes, and what may stand in them.
-ghost use Rattle.std.specs.Prelude.{◌≡◌, ◌<◌, IfSome, slice_index, length};
+ghost use Rattle.std.specs.Prelude.{◌≡◌, ◌<◌, ℕ, List, MatchOption, IfSome, slice_index, length};
 ghost use Rattle.std.specs.List.{list_all};
 ghost use Rattle.std.specs.Char.{is_ascii_hexdigit};
-ghost use Rattle.mt_filter.specs.Quoted.{closing, quoted_by, is_hex};
+ghost use Rattle.mt_filter.specs.Quoted.{doubled, Closes, quoted_by, is_hex};
 ghost use Rattle.uuid.specs.Text.{parsed_hyphenated};
 
 use uuid::Uuid;
@@ -34,7 +34,8 @@ pub fn quoted_by(word: &str) -> Option<Quoted>
 /// The place of the quote that ends the inside which begins at the front. A doubled quote is a
 /// quote of the inside.
 pub fn closing_quote(bytes: &[u8]) -> Option<usize>
-    ensures value { result ≡ closing 0 bytes.now }
+    ensures value { MatchOption result ((text : List ℕ) → Closes bytes.now text → ⊥)
+        (λ n. (text : List ℕ) × Closes bytes.now text × (n ≡ length (doubled text))) }
     ensures quote { IfSome result (λ n. (n < length bytes.now) × (slice_index bytes.now n ≡ 39)) }
 {
     let mut at = 0;

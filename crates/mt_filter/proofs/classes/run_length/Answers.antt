@@ -4,13 +4,14 @@ use Rattle.std.specs.Char.{len_utf8}
 use Rattle.std.specs.Str.Iter.{char_indices_offset, char_indices_rest}
 use Rattle.std.proofs.lemmas.Str.{IsUtf8-past_char, drop_past_char, length-encode}
 use Rattle.mt_filter.specs.Class.{is_in}
-use Rattle.mt_filter.proofs.Runs.{run_on, run_stops, run_whole}
+use Rattle.mt_filter.proofs.Runs.{run_is, run_on, run_stops, run_whole}
 use Rattle.mt_filter.proofs.classes.run_length.Goals as goal
 
 pub returns-then-not-has-clause-value : goal.returns-then-not-has-clause-value
 returns-then-not-has-clause-value c =
     let s = c.in-Some.ensures.steps in
     let miss : is_in c.args.class c.in-Some.c ≡ false = sym c.has.ensures ∙ c.if-not-has.true in
+    let whole = run_is c.args.class c.args.text.now in
     let stops = run_stops c.args.class (char_indices_offset c.loop-at.at-iterator) _ _ _ c.loop-at.invariant.utf8 s.1 miss in
     cc
 
@@ -35,6 +36,7 @@ loop-at-preserved c =
 pub returns-clause-value : goal.returns-clause-value
 returns-clause-value c =
     let s = c.in-None.ensures.steps in
+    let all = run_is c.args.class c.args.text.now in
     let whole = run_whole c.args.class (char_indices_offset c.loop-at.at-iterator) _ s.0 in
     let size : length c.args.text.now - char_indices_offset c.loop-at.at-iterator ≡ length (char_indices_rest c.loop-at.at-iterator) =
     sym (length-drop (char_indices_offset c.loop-at.at-iterator) c.args.text.now) ∙ ap length c.loop-at.invariant.rest in

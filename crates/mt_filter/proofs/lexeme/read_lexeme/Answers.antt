@@ -1,4 +1,4 @@
-use Rattle.std.proofs.Common.{◌≡◌, ◌∙◌, sym, ap, subst, ℕ}
+use Rattle.std.proofs.Common.{◌∙◌, sym, ap, subst, ℕ}
 use Rattle.std.specs.Str.{IsCharBoundary}
 use Rattle.mt_filter.specs.declared.lexeme.Lexeme.{Lexeme}
 use Rattle.mt_filter.proofs.Within.{whole_within, open_first, close_first}

@@ -1,6 +1,7 @@
-use Rattle.std.proofs.Common.{◌≡◌, ◌∙◌, sym, ap, ℕ, ◌+◌, ◌-◌, ◌<◌, List, length, drop, length-drop, get_or, arith}
+use Rattle.std.proofs.Common.{◌≡◌, ◌∙◌, sym, ap, ℕ, ◌+◌, ◌-◌, ◌<◌, List, length, drop, length-drop, get_or, arith, subst, inr, refl}
 use Rattle.std.proofs.lemmas.List.{get_or-drop}
 use Rattle.std.proofs.lemmas.Str.{IsCharBoundary-after_ascii}
+use Rattle.mt_filter.specs.Quoted.{Closes}
 use Rattle.mt_filter.specs.Lexeme.{IsWithin}
 use Rattle.mt_filter.proofs.Within.{quoted_within, if_read}
 use Rattle.mt_filter.proofs.lexeme.read_quoted.Goals as goal
@@ -25,3 +26,9 @@ returns-in-Some-clause-within c =
     (λ x h. quoted_within bs x quote (quote + 1 + end) c.utf8.text c.requires.within c.requires.quote within last (omega arith)
     h.0 (h.1 ∙ ap (λ (n : ℕ). quote + 1 + n) inside) (h.2 ∙ ap (λ (n : ℕ). quote + 1 + n + 1) inside))
     c.read_inside.ensures.places
+
+pub returns-in-None-clause-value : goal.returns-in-None-clause-value
+returns-in-None-clause-value c =
+    let back : c.as_bytes.result.now ≡ drop (c.args.quote + 1) c.args.text.now = c.as_bytes.ensures.value ∙ c.split_at.ensures.back in
+    let P : List ℕ → Type 0 = λ bs. (text : List ℕ) → Closes bs text → ⊥ in
+    inr (subst P back c.in-None.ensures.value, refl)

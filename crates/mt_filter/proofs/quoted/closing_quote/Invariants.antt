@@ -1,5 +1,5 @@
 use Rattle.std.proofs.Common.{◌≡◌, ◌-◌, length, drop}
-use Rattle.mt_filter.specs.Quoted.{closing}
+use Rattle.mt_filter.proofs.Closing.{closing}
 use Rattle.mt_filter.proofs.quoted.closing_quote.Given as goal
 
 abbrev pub invariant-loop-at : goal.invariant-loop-at

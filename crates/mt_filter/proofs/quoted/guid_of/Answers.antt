@@ -1,4 +1,4 @@
-use Rattle.std.proofs.Common.{◌≡◌, ◌∙◌, ℕ, List, length, Option, None, Some, Bool, true, false, refl}
+use Rattle.std.proofs.Common.{◌≡◌, ◌∙◌, ℕ, List, length, Option, None, Some, true, false, refl}
 use Rattle.uuid.specs.Text.{parsed, parsed_hyphenated}
 use Rattle.mt_filter.proofs.quoted.guid_of.Goals as goal
 

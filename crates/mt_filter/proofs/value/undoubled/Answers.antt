@@ -1,4 +1,4 @@
-use Rattle.std.proofs.Common.{◌≡◌, ◌∙◌, sym, ap, ◌++◌, List, ℕ, ◌==◌}
+use Rattle.std.proofs.Common.{◌∙◌, sym, ap, ◌++◌, List, ℕ, ◌==◌}
 use Rattle.std.specs.Prelude.{string_bytes}
 use Rattle.std.specs.Str.{encode_utf8_all, chars}
 use Rattle.std.specs.Str.Iter.{chars_rest}
