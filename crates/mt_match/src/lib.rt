@@ -4,6 +4,8 @@
 mod bounds;
 mod matching;
 mod partition;
+#[cfg(test)]
+mod tests;
 
 pub use bounds::{Bounds, key_bounds};
 pub use matching::matches;
