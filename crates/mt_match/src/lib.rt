@@ -1,0 +1,12 @@
+//! Which rows a filter matches, and between which keys they lie.
+#![tactic(auto)]
+
+mod bounds;
+mod matching;
+mod partition;
+#[cfg(test)]
+mod tests;
+
+pub use bounds::{Bounds, key_bounds};
+pub use matching::matches;
+pub use partition::atomic_partition;
