@@ -1,0 +1,3 @@
+mod ReadingLists
+mod ReadingShape
+mod ReadingLaws

@@ -1,0 +1,223 @@
+//! A store read whole, a partition at a time, in chunks of rows.
+ghost use Rattle.std.specs.Prelude.{◌≡◌, ◌++◌, IfOk, map, None};
+ghost use Rattle.std.specs.List.Sorted.{IsStrictlySortedBy};
+ghost use Rattle.std.specs.Ordering.{nat_cmp};
+ghost use Rattle.std.specs.Cmp.Lexicographic.{slice_cmp};
+ghost use Rattle.mt_chain.specs.Places.{is_before};
+ghost use Rattle.mt_chain.specs.StoreCall.{CanQuery};
+ghost use Rattle.mt_open.specs.Reading.{Passed, Reads, keyed, chunk_query, last_key, place_after, ReadsChunk, QueryShows, AllPass, ReadsPartition, without_value, AsksNext};
+
+use mt_chain::{
+    Found, KeepFault, Keeper, Next, PkFrom, Range, RangeQuery, RkFrom, Stored, StoredRow,
+};
+use mt_model::{Key, NoMemory, Text, Texts};
+use std::alloc::Global;
+
+/// A row of a store with its key.
+pub type Row = (Key, Stored);
+
+/// All that a store holds, as it was read.
+#[derive(Drop)]
+pub struct Loaded {
+    /// Every row, in the order of the keys.
+    pub rows: Vec<Row>,
+    /// Whether the store is sealed.
+    pub sealed: bool,
+}
+
+/// Why a store could not be read.
+#[derive(Clone, Copy, Debug, PartialEq, Eq)]
+pub enum ReadFault {
+    /// The store failed; its count of faults rose.
+    Failed,
+    /// The allocator had no memory.
+    NoMemory,
+}
+
+impl From<NoMemory> for ReadFault {
+    ghost use Rattle.mt_open.specs.declared.reading.ReadFault.TheVariants.{NoMemory};
+
+    ghost from_gives = { λ _ e. e ≡ NoMemory };
+
+    fn from(_e: NoMemory) -> ReadFault {
+        ReadFault::NoMemory
+    }
+}
+
+/// Rows in a chunk, at most.
+const CHUNK: u32 = 100;
+
+/// What is asked for a chunk of a partition.
+fn chunk_query(alloc: Global, pk: &Text, from: RkFrom) -> Result<RangeQuery, NoMemory>
+    ensures { IfOk result (λ q. q ≡ chunk_query pk.now from) }
+{
+    let pk = pk.copy(alloc)?;
+    Ok(RangeQuery {
+        pk,
+        named: Texts::of(Vec::new(alloc)),
+        range: Some(Range {
+            from,
+            upto: None,
+            limit: Some(CHUNK),
+        }),
+    })
+}
+
+/// The answer to a query.
+fn ask<K: Keeper>(alloc: Global, keeper: &mut K, query: &RangeQuery) -> Result<Found, ReadFault>
+    requires { CanQuery query.now }
+    ensures passed { Passed (K.state keeper.old) (K.state keeper.new) }
+    ensures shows { QueryShows query.now result (K.state keeper.old) (K.state keeper.new) }
+{
+    match keeper.query(alloc, query) {
+        Ok(found) => Ok(found),
+        Err(KeepFault::Failed) => Err(ReadFault::Failed),
+        Err(_) => Err(ReadFault::NoMemory),
+    }
+}
+
+/// A copy of a row, with its key.
+fn row_of(alloc: Global, pk: &Text, row: &StoredRow) -> Result<Row, NoMemory>
+    ensures { IfOk result (λ r. r ≡ (record { pk = pk.now; rk = row.now.rk }, record { props = row.now.props; tag = row.now.tag })) }
+{
+    let pk = pk.copy(alloc)?;
+    let rk = row.rk.copy(alloc)?;
+    let props = row.props.copy(alloc)?;
+    Ok((
+        Key { pk, rk },
+        Stored {
+            props,
+            tag: row.tag,
+        },
+    ))
+}
+
+/// Puts copies of rows of a partition after others.
+fn push_rows(
+    alloc: Global,
+    rows: &mut Vec<Row>,
+    pk: &Text,
+    found: &[StoredRow],
+) -> Result<(), NoMemory>
+    ensures { IfOk result (λ u. rows.new.items ≡ rows.old.items ++ keyed pk.now found.now) }
+{
+    for row in found {
+        rows.push(row_of(alloc, pk, row)?)?;
+    }
+    Ok(())
+}
+
+/// A copy of the last row key.
+fn last_key(alloc: Global, rows: &[StoredRow]) -> Result<Option<Text>, NoMemory>
+    ensures { IfOk result (λ rk. rk ≡ last_key rows.now) }
+{
+    match rows.last() {
+        None => Ok(None),
+        Some(row) => Ok(Some(row.rk.copy(alloc)?)),
+    }
+}
+
+/// Where the rows after a chunk begin, if there may be any.
+fn place_after(alloc: Global, found: &Found) -> Result<Option<RkFrom>, NoMemory>
+    ensures { IfOk result (λ place. place ≡ place_after found.now) }
+{
+    if !found.more {
+        return Ok(None);
+    }
+    match last_key(alloc, found.rows.as_slice())? {
+        None => Ok(None),
+        Some(rk) => Ok(Some(RkFrom::After(rk))),
+    }
+}
+
+/// Reads a chunk of a partition; answers where the next one begins.
+fn read_chunk<K: Keeper>(
+    alloc: Global,
+    keeper: &mut K,
+    pk: &Text,
+    from: RkFrom,
+    rows: &mut Vec<Row>,
+) -> Result<Option<RkFrom>, ReadFault>
+    ensures { ReadsChunk (K.state keeper.old) pk.now from rows.old.items result rows.new.items (K.state keeper.new) }
+{
+    let query = chunk_query(alloc, pk, from)?;
+    let found = ask(alloc, keeper, &query)?;
+    push_rows(alloc, rows, pk, found.rows.as_slice())?;
+    Ok(place_after(alloc, &found)?)
+}
+
+/// Reads a partition whole, in chunks, after rows of lesser partitions.
+fn read_partition<K: Keeper>(
+    alloc: Global,
+    keeper: &mut K,
+    pk: &Text,
+    rows: &mut Vec<Row>,
+) -> Result<(), ReadFault>
+    requires { AllPass (is_before pk.now RkFrom.Start) rows.old.items }
+    ensures { ReadsPartition (K.state keeper.old) pk.now rows.old.items result rows.new.items (K.state keeper.new) }
+{
+    let mut from = RkFrom::Start;
+    loop {
+        match read_chunk(alloc, keeper, pk, from, rows) {
+            Ok(Some(place)) => from = place,
+            Ok(None) => return Ok(()),
+            Err(fault) => return Err(fault),
+        }
+    }
+}
+
+/// Reads a partition whole; answers the place past it.
+fn read_next<K: Keeper>(
+    alloc: Global,
+    keeper: &mut K,
+    pk: Text,
+    rows: &mut Vec<Row>,
+) -> Result<PkFrom, ReadFault>
+    requires { AllPass (is_before pk RkFrom.Start) rows.old.items }
+    ensures place { IfOk result (λ place. place ≡ PkFrom.After pk) }
+    ensures reads { ReadsPartition (K.state keeper.old) pk rows.old.items (without_value result) rows.new.items (K.state keeper.new) }
+{
+    match read_partition(alloc, keeper, &pk, rows) {
+        Ok(()) => Ok(PkFrom::After(pk)),
+        Err(fault) => Err(fault),
+    }
+}
+
+/// The next partition at or after a place, and whether the store is sealed.
+fn next_partition<K: Keeper>(alloc: Global, keeper: &mut K, at: &PkFrom) -> Result<Next, ReadFault>
+    ensures { AsksNext (K.state keeper.old) at.now result (K.state keeper.new) }
+{
+    match keeper.next_partition(alloc, at) {
+        Ok(next) => Ok(next),
+        Err(KeepFault::Failed) => Err(ReadFault::Failed),
+        Err(_) => Err(ReadFault::NoMemory),
+    }
+}
+
+/// Reads all rows of a store, and whether it is sealed. The store's contents stay as they were.
+///
+/// The rows rise by their keys, and where the store tells its contents they are all of its rows.
+pub fn read_store<K: Keeper>(alloc: Global, keeper: &mut K) -> Result<Loaded, ReadFault>
+    ensures { Reads (K.state keeper.old) result (K.state keeper.new) }
+{
+    let mut rows = Vec::new(alloc);
+    let mut at = PkFrom::From(Text::of(alloc, "")?);
+    loop {
+        let next = match next_partition(alloc, keeper, &at) {
+            Ok(next) => next,
+            Err(fault) => return Err(fault),
+        };
+        match next.pk {
+            None => {
+                return Ok(Loaded {
+                    rows,
+                    sealed: next.sealed,
+                });
+            }
+            Some(pk) => match read_next(alloc, keeper, pk, &mut rows) {
+                Ok(place) => at = place,
+                Err(fault) => return Err(fault),
+            },
+        }
+    }
+}
