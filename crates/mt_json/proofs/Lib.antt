@@ -1,3 +1,5 @@
 pub mod ValueLaws
 pub mod MemberLaws
 pub mod WrittenLaws
+pub mod DraftLaws
+pub mod TagLaws

@@ -3,3 +3,4 @@ pub mod Guid
 pub mod Value
 pub mod Body
 pub mod Written
+pub mod Draft
