@@ -3,19 +3,20 @@ use Rattle.std.proofs.Common.{◌≡◌, ℕ, ◌≤◌, Bool, true, false, List
 use Rattle.std.specs.Prelude.{⊤}
 use Rattle.std.specs.Ordering.{nat_cmp, match_ordering}
 use Rattle.std.specs.Cmp.Lexicographic.{slice_cmp}
-use Rattle.serde_json.specs.Data.{Data, string, number, Members, no_members, member, put, depth, members_depth}
+use Rattle.serde_json.specs.Data.{Data, string, number, object, Members, no_members, member, put, depth, members_depth}
 use Rattle.serde_json.specs.Find.{of_integer}
 use Rattle.serde_json.specs.Read.{max_depth}
 use Rattle.serde_json.specs.Written.{has_float, members_have_float}
 use Rattle.mt_model.specs.Tag.{tag_text}
 use Rattle.mt_model.specs.declared.entity.Entity.{Entity}
+use Rattle.mt_model.specs.declared.key.Key.{Key}
 use Rattle.mt_model.specs.declared.value.Prop.{Prop}
 use Rattle.mt_model.specs.declared.value.Value.{Value}
 use Rattle.mt_model.specs.declared.value.Value.TheVariants.{Str, Binary, Bool as Boolean, Int32, Int64, Guid, Moment}
 use Rattle.mt_json.specs.declared.write.Level.{Level}
 use Rattle.mt_json.specs.declared.write.Level.TheVariants as level
 use Rattle.mt_json.specs.Kind.{type_key}
-use Rattle.mt_json.specs.Written.{type_name, Shows, is_chosen, put_chosen, put_type, put_etag, put_system, AddsProp, AddProps, IsObjectOf}
+use Rattle.mt_json.specs.Written.{type_name, Shows, is_chosen, put_chosen, put_type, put_etag, put_system, AddsProp, AddProps, put_keys, IsShown, IsObjectOf}
 
 -- no float, and nothing inside
 record IsLeaf (d : Data) : Type 0 where
@@ -75,11 +76,13 @@ leaves-props l chosen [] old new is a = subst AreLeaves (sym is) a
 leaves-props l chosen (p ∷ ps) old new (between, first, rest) a =
     leaves-props l chosen ps between new rest (leaves-prop l chosen p old between first a)
 
+leaves-keys : (chosen : Option (List (List ℕ))) (key : Key) (ms : Members) → AreLeaves ms → AreLeaves (put_keys chosen key ms)
+leaves-keys chosen key ms a =
+    let pk = leaves-if (is_chosen chosen (codes "PartitionKey")) (codes "PartitionKey") key.pk ms a in
+    leaves-if (is_chosen chosen (codes "RowKey")) (codes "RowKey") key.rk (put_chosen chosen (codes "PartitionKey") key.pk ms) pk
+
 leaves-system : (l : Level) (chosen : Option (List (List ℕ))) (e : Entity) (ms : Members) → AreLeaves ms → AreLeaves (put_system l chosen e ms)
-leaves-system l chosen e ms a =
-    let pk = leaves-if (is_chosen chosen (codes "PartitionKey")) (codes "PartitionKey") e.key.pk ms a in
-    let rk = leaves-if (is_chosen chosen (codes "RowKey")) (codes "RowKey") e.key.rk (put_chosen chosen (codes "PartitionKey") e.key.pk ms) pk in
-    leaves-etag l (tag_text e.tag) (put_chosen chosen (codes "RowKey") e.key.rk (put_chosen chosen (codes "PartitionKey") e.key.pk ms)) rk
+leaves-system l chosen e ms a = leaves-etag l (tag_text e.tag) (put_keys chosen e.key ms) (leaves-keys chosen e.key ms a)
 
 no_float-leaves : (ms : Members) → AreLeaves ms → members_have_float ms ≡ false
 no_float-leaves no_members a = refl
@@ -100,3 +103,13 @@ is_shallow e l chosen d (ms, h, is) =
     let flat = flat-leaves (put_system l chosen e ms) (leaves-object e l chosen ms h) in
     let one : depth d ≡ 1 = ap depth is ∙ rw flat in
     omega (arith, one)
+
+pub no_float-shown : (key : Key) (ps : List Prop) (l : Level) (chosen : Option (List (List ℕ))) (ms : Members) → IsShown key ps l chosen ms
+    → members_have_float ms ≡ false
+no_float-shown key ps l chosen ms (shown, adds, is) =
+    ap members_have_float is ∙ no_float-leaves (put_keys chosen key shown) (leaves-keys chosen key shown (leaves-props l chosen ps no_members shown adds tt))
+
+-- the members with the tag make the entity's object
+pub object-shown : (e : Entity) (l : Level) (chosen : Option (List (List ℕ))) (ms : Members) → IsShown e.key e.props l chosen ms
+    → IsObjectOf e l chosen (object (put_etag l (tag_text e.tag) ms))
+object-shown e l chosen ms (shown, adds, is) = (shown, adds, ap (λ ms. object (put_etag l (tag_text e.tag) ms)) is)

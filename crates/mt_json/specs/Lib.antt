@@ -1,5 +1,5 @@
 pub mod Kind
-pub mod Guid
 pub mod Value
 pub mod Body
 pub mod Written
+pub mod Draft

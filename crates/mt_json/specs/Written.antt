@@ -4,10 +4,12 @@ use Rattle.std.specs.List.{list_any}
 use Rattle.std.specs.Fmt.{signed_decimal}
 use Rattle.base64.specs.Engines.{standard}
 use Rattle.base64.specs.GeneralPurpose.{encode_of}
+use Rattle.uuid.specs.Text.{hyphenated_text, lower}
 use Rattle.serde_json.specs.Data.{Data, boolean, number, string, object, Members, no_members, put}
 use Rattle.serde_json.specs.Find.{of_integer}
 use Rattle.serde_json.specs.Written.{compact_text}
 use Rattle.mt_model.specs.declared.entity.Entity.{Entity}
+use Rattle.mt_model.specs.declared.key.Key.{Key}
 use Rattle.mt_model.specs.declared.value.Prop.{Prop}
 use Rattle.mt_model.specs.declared.value.Value.{Value}
 use Rattle.mt_model.specs.declared.value.Value.TheVariants.{Str, Binary, Bool as Boolean, Int32, Int64, Guid, Moment}
@@ -16,7 +18,6 @@ use Rattle.mt_model.specs.Tag.{tag_text}
 use Rattle.mt_time.specs.Moment.{HasTicksInFull}
 use Rattle.mt_json.specs.declared.write.Level.{Level}
 use Rattle.mt_json.specs.declared.write.Level.TheVariants as level
-use Rattle.mt_json.specs.Guid.{guid_text}
 use Rattle.mt_json.specs.Kind.{type_key}
 use Rattle.mt_json.specs.Body.{Reads}
 
@@ -37,7 +38,7 @@ Shows (Boolean b) d = d ≡ boolean b
 Shows (Int32 z) d = d ≡ number (of_integer z)
 Shows (Binary bytes) d = d ≡ string (encode_of standard bytes)
 Shows (Int64 z) d = d ≡ string (signed_decimal z)
-Shows (Guid bytes) d = d ≡ string (guid_text bytes)
+Shows (Guid bytes) d = d ≡ string (hyphenated_text lower bytes)
 Shows (Moment ticks) d = (text : List ℕ) × (d ≡ string text) × HasTicksInFull text ticks
 
 -- no names were chosen, or the name is among them
@@ -76,10 +77,17 @@ AddProps level chosen [] old new = new ≡ old
 AddProps level chosen (p ∷ ps) old new =
     (between : Members) × AddsProp level chosen p old between × AddProps level chosen ps between new
 
+-- the members with the keys that are chosen
+abbrev pub put_keys : Option (List (List ℕ)) → Key → Members → Members
+put_keys chosen key ms = put_chosen chosen (codes "RowKey") key.rk (put_chosen chosen (codes "PartitionKey") key.pk ms)
+
 -- the keys that are chosen, and the tag
 abbrev pub put_system : Level → Option (List (List ℕ)) → Entity → Members → Members
-put_system level chosen e ms =
-    put_etag level (tag_text e.tag) (put_chosen chosen (codes "RowKey") e.key.rk (put_chosen chosen (codes "PartitionKey") e.key.pk ms))
+put_system level chosen e ms = put_etag level (tag_text e.tag) (put_keys chosen e.key ms)
+
+-- the members without the tag
+abbrev pub IsShown : Key → List Prop → Level → Option (List (List ℕ)) → Members → Type 0
+IsShown key props level chosen ms = (shown : Members) × AddProps level chosen props no_members shown × (ms ≡ put_keys chosen key shown)
 
 -- d is the entity's object
 abbrev pub IsObjectOf : Entity → Level → Option (List (List ℕ)) → Data → Type 0

@@ -1,6 +1,7 @@
 //! Entities as JSON objects (RFC 8259), in the form of the Azure Table service's bodies.
 #![tactic(auto)]
 
+mod draft;
 mod guid;
 mod kind;
 mod member;
@@ -10,5 +11,6 @@ mod tests;
 mod value;
 mod write;
 
+pub use draft::Draft;
 pub use read::{Body, JsonFault, KeyUse, read_entity};
 pub use write::{Level, write_entity};

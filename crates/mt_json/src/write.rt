@@ -5,11 +5,11 @@ ghost use Rattle.serde_json.specs.View.{view, members_view};
 ghost use Rattle.mt_model.specs.Value.{is_too_large};
 ghost use Rattle.mt_model.specs.Props.{IsProps, too_large_at};
 ghost use Rattle.mt_model.specs.Tag.{tag_text};
-ghost use Rattle.mt_json.specs.Written.{type_name, Shows, is_chosen, is_shown, put_chosen, put_type as with_type, put_etag as with_etag, put_system as with_system, AddsProp, AddProps, IsObjectOf, IsWritten, IsReadAs};
+ghost use Rattle.mt_json.specs.Written.{type_name, Shows, is_chosen, is_shown, put_chosen, put_type as with_type, put_etag as with_etag, put_keys as with_keys, put_system as with_system, AddsProp, AddProps, IsObjectOf, IsWritten, IsReadAs};
 
 use crate::guid::guid_text;
 use base64::engine::general_purpose::STANDARD;
-use mt_model::{Entity, NoMemory, Prop, Tag, Text, Value};
+use mt_model::{Entity, Key, NoMemory, Prop, Tag, Text, Value};
 use mt_time::print_utc;
 use serde_json::{Map, Value as Json, put};
 use std::alloc::Global;
@@ -113,7 +113,7 @@ fn put_prop(
 }
 
 /// Adds the properties that are shown.
-fn put_props(
+pub(crate) fn put_props(
     members: &mut Map<String, Json>,
     alloc: Global,
     level: Level,
@@ -166,6 +166,20 @@ fn put_etag(
     Ok(put(members, alloc, "odata.etag", tag)?)
 }
 
+/// Adds the keys that are chosen.
+pub(crate) fn put_keys(
+    members: &mut Map<String, Json>,
+    alloc: Global,
+    chosen: Option<&Vec<Text>>,
+    key: &Key,
+) -> Result<(), NoMemory>
+    ensures { OnOk result (members_view members.new.entries
+        ≡ with_keys (option_map (λ v. v.now.items) chosen.entry) key.now (members_view members.old.entries)) }
+{
+    put_key(members, alloc, chosen, "PartitionKey", &key.pk)?;
+    put_key(members, alloc, chosen, "RowKey", &key.rk)
+}
+
 /// Adds the keys that are chosen, and the tag.
 fn put_system(
     members: &mut Map<String, Json>,
@@ -177,8 +191,7 @@ fn put_system(
     ensures { OnOk result (members_view members.new.entries
         ≡ with_system level (option_map (λ v. v.now.items) chosen.entry) entity.now (members_view members.old.entries)) }
 {
-    put_key(members, alloc, chosen, "PartitionKey", &entity.key.pk)?;
-    put_key(members, alloc, chosen, "RowKey", &entity.key.rk)?;
+    put_keys(members, alloc, chosen, &entity.key)?;
     put_etag(members, alloc, level, entity.tag)
 }
 
