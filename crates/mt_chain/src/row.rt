@@ -139,4 +139,12 @@ impl StoredRows {
     {
         self.items.as_slice()
     }
+
+    /// The rows in order, without taking memory.
+    pub fn into_items(self) -> Vec<StoredRow>
+        ensures value { result.items ≡ self }
+        ensures rising { IsStrictlySortedBy (slice_cmp nat_cmp) (map (λ s. s.rk) self) }
+    {
+        self.items
+    }
 }
