@@ -13,6 +13,9 @@ use mt_chain::{
 use mt_model::{Key, NoMemory, Text, Texts};
 use std::alloc::Global;
 
+#[cfg(test)]
+mod tests;
+
 /// A row of a store with its key.
 pub type Row = (Key, Stored);
 
