@@ -1,11 +1,8 @@
 -- One text has one reading by the grammar.
-use Rattle.std.proofs.Common.{◌≡◌, ◌∙◌, ℕ, ◌+◌, ◌<◌, ◌≤◌, ◌⊎◌, ◌==◌, Bool, true, false, List, length, sym, ap, subst, inl, inr, ⊎_elim, refl, arith}
+use Rattle.std.proofs.Common.{◌≡◌, ◌∙◌, ℕ, ◌+◌, ◌<◌, ◌≤◌, ◌⊎◌, Bool, true, false, List, sym, ap, subst, inl, inr, ⊎_elim, refl, arith}
 use Rattle.std.specs.Bool.{MatchBool}
 use Rattle.std.proofs.lemmas.Bool.{MatchBool-at_true, MatchBool-at_false}
-use Rattle.mt_model.specs.declared.value.Value.{Value}
-use Rattle.mt_filter.specs.declared.begin.Begin.{Begin}
 use Rattle.mt_filter.specs.declared.begin.Begin.TheVariants.{Not, Open, Name, Other}
-use Rattle.mt_filter.specs.declared.chain.Chain.{Chain}
 use Rattle.mt_filter.specs.declared.chain.Chain.TheVariants.{Or, And}
 use Rattle.mt_filter.specs.declared.filter.Compare.{Compare}
 use Rattle.mt_filter.specs.declared.filter.Field.{Field}
@@ -15,7 +12,7 @@ use Rattle.mt_filter.specs.Begin.{begin_of}
 use Rattle.mt_filter.specs.Literal.{IsValue}
 use Rattle.mt_filter.specs.Tree.{Tree}
 use Rattle.mt_filter.specs.Words.{begins_with_word, after_first_word}
-use Rattle.mt_filter.specs.Grammar.{left, First, token, none, IsFirst, Sought, found, missed, IsSought, IsClosing, IsComparison, Reading, read, bad, word_of, with_operand, negated, closed, IsClosed, tested, IsCompared, IsTest, Part, chain, more, operand, unary, from, Reads, chained, stops, ends, joins, of_or, of_and, nothing, begins, other, deep_not, negates, deep_open, encloses, too_many, tests, at_end, IsEnded, IsWhole, IsFilter, IsBad}
+use Rattle.mt_filter.specs.Grammar.{left, First, token, none, IsFirst, Sought, found, missed, IsClosing, IsComparison, Reading, read, bad, word_of, with_operand, negated, closed, IsClosed, tested, IsCompared, IsTest, Part, chain, more, operand, unary, from, Reads, chained, stops, ends, joins, of_or, of_and, nothing, begins, other, deep_not, negates, deep_open, encloses, too_many, tests, at_end, IsEnded, IsWhole, IsFilter, IsBad}
 use Rattle.mt_filter.proofs.Unique.{IsOne, first_one, sought_one, value_sort, comparison_sort, closing_sort}
 
 -- what goes on from what stands first

@@ -1,5 +1,5 @@
 -- Reading goes on within a text: what follows is never longer, and no fault lies past the end.
-use Rattle.std.proofs.Common.{◌≡◌, ◌∙◌, ℕ, ◌+◌, ◌-◌, ◌<◌, ◌≤◌, ◌==◌, if◌then◌else◌, Bool, true, false, List, [], length, drop, take, Option, Some, None, Ok, sym, ap, subst, ⊎_elim, refl, arith, rules, length-drop}
+use Rattle.std.proofs.Common.{◌≡◌, ℕ, ◌+◌, ◌<◌, ◌≤◌, ◌==◌, if◌then◌else◌, Bool, true, false, List, [], length, drop, take, Option, sym, ap, subst, arith, length-drop}
 use Rattle.std.proofs.lemmas.List.{length-take}
 use Rattle.std.proofs.lemmas.Slice.Eq.{bytes_eq-Decides}
 use Rattle.mt_filter.specs.declared.chain.Chain.{Chain}
@@ -13,7 +13,7 @@ use Rattle.mt_filter.specs.Class.{run_length}
 use Rattle.mt_filter.specs.Literal.{IsValue}
 use Rattle.mt_filter.specs.Tree.{Tree}
 use Rattle.mt_filter.specs.Words.{skipped, first_word, begins_with_word, after_first_word}
-use Rattle.mt_filter.specs.Grammar.{left, First, token, none, IsFirst, Sought, found, missed, IsSought, IsClosing, IsComparison, Reading, read, bad, word_of, with_operand, negated, closed, IsClosed, tested, IsCompared, IsTest, Part, chain, more, operand, unary, from, Reads, chained, stops, ends, joins, of_or, of_and, nothing, begins, other, deep_not, negates, deep_open, encloses, too_many, tests, at_end, IsEnded, IsWhole}
+use Rattle.mt_filter.specs.Grammar.{left, First, token, none, IsFirst, Sought, found, missed, IsSought, IsClosing, IsComparison, Reading, read, bad, word_of, with_operand, negated, closed, IsClosed, tested, IsCompared, Part, chain, more, operand, unary, from, Reads, chained, stops, ends, joins, of_or, of_and, nothing, begins, other, deep_not, negates, deep_open, encloses, too_many, tests, at_end, IsEnded, IsWhole}
 
 pub left_within : (text : List ℕ) → left text ≤ length text
 left_within text = omega (arith, length-drop (run_length Blank text) text)

@@ -1,10 +1,9 @@
 -- One step over the characters of an inside.
-use Rattle.std.proofs.Common.{◌≡◌, ℕ, Bool, true, false, ◌&&◌, ◌==◌, List, [], ◌∷◌, ◌++◌, length, refl, arith, append_assoc, append-nil, ◌∙◌, ap}
+use Rattle.std.proofs.Common.{◌≡◌, ℕ, Bool, true, false, ◌&&◌, ◌==◌, List, [], ◌∷◌, ◌++◌, length, refl, arith, append_assoc, append-nil}
 use Rattle.std.specs.Prelude.{encode_utf8}
 use Rattle.std.specs.Str.{IsUtf8, chars, encode_utf8_all}
 use Rattle.std.proofs.lemmas.Str.{chars_past_char, chars-nil}
 use Rattle.mt_filter.specs.Literal.{single_quotes}
-use Rattle.mt_filter.specs.Quoted.{doubled}
 
 pub second_skipped : (after : Bool) (out bs rest : List ℕ) (c : ℕ) → IsUtf8 bs → bs ≡ encode_utf8 c ++ rest → (after && (c == 39)) ≡ true
     → out ++ encode_utf8_all (single_quotes after (chars bs)) ≡ out ++ encode_utf8_all (single_quotes false (chars rest))
@@ -17,14 +16,3 @@ other_kept after out bs rest c u e n = rw (chars_past_char bs rest c u e, n, app
 pub all_taken : (after : Bool) (out bs : List ℕ) → length bs ≡ 0 → out ++ encode_utf8_all (single_quotes after (chars bs)) ≡ out
 all_taken after out [] e = rw chars-nil (append-nil out)
 all_taken after out (b ∷ bs) e = absurd (omega arith)
-
-single_by : (c : ℕ) (text : List ℕ) (t : Bool) → (c == 39) ≡ t → single_quotes false (doubled text) ≡ text → single_quotes false (doubled (c ∷ text)) ≡ c ∷ text
-single_by c text true e ih =
-    let is : 39 ≡ c = grind (arith, e) in
-    rw e (ap (λ (xs : List ℕ). 39 ∷ xs) ih ∙ ap (λ (q : ℕ). q ∷ text) is)
-single_by c text false e ih = rw (e, e) (ap (λ (xs : List ℕ). c ∷ xs) ih)
-
--- one quote for each two gives the text back
-pub singles_of_doubled : (text : List ℕ) → single_quotes false (doubled text) ≡ text
-singles_of_doubled [] = refl
-singles_of_doubled (c ∷ text) = single_by c text (c == 39) refl (singles_of_doubled text)

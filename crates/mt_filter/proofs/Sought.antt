@@ -1,12 +1,12 @@
 -- What a search for a token comes to.
-use Rattle.std.proofs.Common.{◌≡◌, ℕ, List, Option, Some, None, inl, inr, refl, sym, subst}
+use Rattle.std.proofs.Common.{◌≡◌, ℕ, List, Option, Some, None, inr, refl, sym, subst}
 use Rattle.mt_filter.specs.declared.filter.FilterKind.{FilterKind}
 use Rattle.mt_filter.specs.declared.filter.FilterKind.TheVariants.{Expected}
 use Rattle.mt_filter.specs.declared.lexeme.LexemeKind.{LexemeKind}
 use Rattle.mt_filter.specs.declared.lexeme.LexemeKind.TheVariants.{Word, Open, Close, Text, Binary, Guid, Moment, Int32, Int64}
 use Rattle.mt_filter.specs.declared.reader.Halt.{Halt}
 use Rattle.mt_filter.specs.declared.reader.Halt.TheVariants.{Bad, NoMemory}
-use Rattle.mt_filter.specs.Grammar.{left, First, token, none, IsFirst, Sought, found, missed, IsSought, IsClosing}
+use Rattle.mt_filter.specs.Grammar.{left, token, IsFirst, missed, IsSought, IsClosing}
 use Rattle.mt_filter.specs.Answer.{IfHalted}
 
 -- what holds of a fault, by what else does

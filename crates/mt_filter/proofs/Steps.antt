@@ -1,8 +1,8 @@
 -- The grammar's steps as the reader takes them.
-use Rattle.std.proofs.Common.{◌≡◌, ◌∙◌, ℕ, ◌+◌, ◌<◌, ◌==◌, Bool, true, false, cond, List, [], Result, Ok, Err, refl, sym, ap, subst, arith}
+use Rattle.std.proofs.Common.{◌≡◌, ◌∙◌, ℕ, ◌+◌, ◌<◌, ◌==◌, true, false, List, [], Result, Ok, Err, refl, sym, ap, subst, arith}
 use Rattle.mt_model.specs.declared.value.Value.{Value}
 use Rattle.mt_filter.specs.declared.begin.Begin.{Begin}
-use Rattle.mt_filter.specs.declared.begin.Begin.TheVariants.{Not, Open, Name, Other}
+use Rattle.mt_filter.specs.declared.begin.Begin.TheVariants.{Not, Open, Name}
 use Rattle.mt_filter.specs.declared.chain.Chain.{Chain}
 use Rattle.mt_filter.specs.declared.chain.Chain.TheVariants.{Or, And}
 use Rattle.mt_filter.specs.declared.filter.Compare.{Compare}
@@ -18,7 +18,7 @@ use Rattle.mt_filter.specs.Begin.{begin_of}
 use Rattle.mt_filter.specs.Literal.{IsValue}
 use Rattle.mt_filter.specs.Tree.{Tree, test, not}
 use Rattle.mt_filter.specs.Words.{begins_with_word, after_first_word}
-use Rattle.mt_filter.specs.Grammar.{left, First, token, none, IsFirst, Sought, found, missed, IsSought, IsClosing, IsComparison, Reading, read, bad, word_of, Part, Reads, chain, more, operand, unary, from, word_of, joined, with_operand, chained, stops, ends, joins, tests, encloses, negates, of_or, of_and, begins, nothing, at_end}
+use Rattle.mt_filter.specs.Grammar.{left, token, none, IsFirst, found, missed, IsSought, IsClosing, IsComparison, Reading, read, bad, word_of, Part, Reads, chain, more, operand, unary, from, word_of, with_operand, chained, stops, ends, joins, tests, encloses, negates, of_or, of_and, begins, nothing, at_end}
 
 pub test_read : (field : Field) (compare : Compare) (value : Value) (place n m level : ℕ) (text after rest : List ℕ) → n < 15 → m ≡ n + 1
     → IsSought IsComparison text (found compare after) → IsSought IsValue after (found value rest)

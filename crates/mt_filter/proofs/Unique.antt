@@ -1,17 +1,14 @@
 -- One text has one reading.
-use Rattle.std.proofs.Common.{◌≡◌, ◌∙◌, ℕ, ℤ, pos, ◌+◌, ◌<◌, ◌≤◌, ◌⊎◌, ◌==◌, Bool, true, false, List, length, drop, take, Option, Some, None, Result, Ok, Err, MatchOption, MatchResult, sym, ap, subst, inl, inr, ⊎_elim, refl, arith}
+use Rattle.std.proofs.Common.{◌≡◌, ◌∙◌, ℕ, ℤ, pos, ◌+◌, ◌==◌, Bool, true, false, List, drop, take, Option, Some, None, Result, Ok, Err, MatchOption, sym, ap, subst, inl, inr, ⊎_elim, refl}
 use Rattle.std.specs.Bool.{MatchBool}
-use Rattle.std.proofs.lemmas.Bool.{MatchBool-at_true, MatchBool-at_false}
-use Rattle.std.proofs.lemmas.Option.{same_Some, none-some}
 use Rattle.std.specs.Prelude.{slice_range, IsErr}
 use Rattle.hex.specs.Hex.{decode_of}
 use Rattle.uuid.specs.Text.{parsed_hyphenated}
-use Rattle.mt_model.specs.declared.value.Value.{Value}
 use Rattle.mt_model.specs.declared.value.Value.TheVariants.{Binary as AsBytes}
-use Rattle.mt_time.specs.Moment.{HasTicks, HasNoTicks, ticks_of}
+use Rattle.mt_time.specs.Moment.{HasTicks, ticks_of}
 use Rattle.mt_time.proofs.TextLaws.{wide, text_unique}
 use Rattle.mt_filter.specs.declared.filter.FilterKind.{FilterKind}
-use Rattle.mt_filter.specs.declared.filter.FilterKind.TheVariants.{Token, DoubleLiteral, OutOfRange, Expected}
+use Rattle.mt_filter.specs.declared.filter.FilterKind.TheVariants.{Expected}
 use Rattle.mt_filter.specs.declared.quoted.Quoted.{Quoted}
 use Rattle.mt_filter.specs.declared.quoted.Quoted.TheVariants.{Text as InText, Moment as InMoment, Guid as InGuid, Binary as InBinary}
 use Rattle.mt_filter.specs.declared.lexeme.Front.{Front}
@@ -19,7 +16,7 @@ use Rattle.mt_filter.specs.declared.lexeme.Front.TheVariants.{End, Open as AtOpe
 use Rattle.mt_filter.specs.declared.lexeme.LexemeKind.{LexemeKind}
 use Rattle.mt_filter.specs.declared.lexeme.LexemeKind.TheVariants.{Open, Close, Word, Text, Binary, Guid, Moment, Int32, Int64}
 use Rattle.mt_filter.specs.declared.lexeme.Lexeme.{Lexeme}
-use Rattle.mt_filter.specs.declared.classes.Class.TheVariants.{Digit, Letter}
+use Rattle.mt_filter.specs.declared.classes.Class.TheVariants.{Letter}
 use Rattle.mt_filter.specs.Class.{run_length}
 use Rattle.mt_filter.specs.Words.{skipped}
 use Rattle.mt_filter.specs.Quoted.{doubled}

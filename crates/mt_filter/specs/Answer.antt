@@ -1,7 +1,7 @@
 -- What the reader's answers say of the grammar.
-use Rattle.std.specs.Prelude.{ℕ, List, [], Option, Result, Ok, Err, MatchResult}
+use Rattle.std.specs.Prelude.{ℕ, List, [], Option, Result, MatchResult}
 use Rattle.mt_filter.specs.Tree.{Tree, tree_of}
-use Rattle.mt_filter.specs.Grammar.{Reading, read, bad, Part, Reads, Sought, found, missed, IsSought, IsEnded, IsWhole, IsFilter}
+use Rattle.mt_filter.specs.Grammar.{read, bad, Part, Reads, found, missed, IsSought, IsEnded, IsWhole, IsFilter}
 use Rattle.mt_filter.specs.declared.filter.Filter.{Filter}
 use Rattle.mt_filter.specs.declared.filter.FilterKind.{FilterKind}
 use Rattle.mt_filter.specs.declared.filter.FilterFault.{FilterFault}

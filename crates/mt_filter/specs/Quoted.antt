@@ -3,7 +3,7 @@ use Rattle.std.specs.Prelude.{◌≡◌, ℕ, ◌%◌, Bool, false, ◌&&◌, �
 use Rattle.std.specs.List.{flat_map, list_all}
 use Rattle.std.specs.Char.{is_ascii_hexdigit}
 use Rattle.mt_filter.specs.declared.quoted.Quoted.{Quoted}
-use Rattle.mt_filter.specs.declared.quoted.Quoted.TheVariants.{Text, Moment, Guid, Binary}
+use Rattle.mt_filter.specs.declared.quoted.Quoted.TheVariants.{Moment, Guid, Binary}
 
 -- what a literal is whose quotes stand right after this word
 abbrev pub quoted_by : List ℕ → Option Quoted

@@ -1,5 +1,5 @@
 -- The words of the grammar.
-use Rattle.std.specs.Prelude.{◌≡◌, ℕ, Bool, true, ◌||◌, List, take, drop, is_some, Option, Some, None, codes, bytes_eq, if◌then◌else◌}
+use Rattle.std.specs.Prelude.{ℕ, Bool, ◌||◌, List, take, drop, is_some, Option, Some, None, codes, bytes_eq, if◌then◌else◌}
 use Rattle.mt_model.specs.Name.{is_plain_name}
 use Rattle.mt_filter.specs.Class.{run_length}
 use Rattle.mt_filter.specs.declared.classes.Class.TheVariants.{Blank, Letter}

@@ -1,9 +1,10 @@
 //! Laws of the definitions: functions that do nothing, and whose clauses are proved.
-ghost use Rattle.std.specs.Prelude.{◌≡◌, ℕ, List, false};
+ghost use Rattle.std.specs.Prelude.{◌≡◌, ℕ, List};
+ghost use Rattle.std.specs.Str.{IsUtf8};
 ghost use Rattle.mt_filter.specs.declared.filter.FilterKind.{FilterKind};
 ghost use Rattle.mt_filter.specs.Tree.{Tree};
 ghost use Rattle.mt_filter.specs.Grammar.{IsFilter, IsBad};
-ghost use Rattle.mt_filter.specs.Literal.{single_quotes};
+ghost use Rattle.mt_filter.specs.Literal.{undoubled};
 ghost use Rattle.mt_filter.specs.Quoted.{doubled};
 
 /// A text is at most one of a filter, with one tree, and of what is wrong at one place.
@@ -14,7 +15,7 @@ pub fn one_outcome()
     ensures either { (text : List ℕ) (f : Tree) (at : ℕ) (kind : FilterKind) → IsFilter text f → IsBad text at kind → ⊥ }
 {}
 
-/// In characters, the text of a literal is the one whose quotes its inside doubles.
+/// The text of a literal is the one whose quotes its inside doubles.
 pub fn quotes_are_doubled()
-    ensures { (text : List ℕ) → single_quotes false (doubled text) ≡ text }
+    ensures { (text : List ℕ) → IsUtf8 text → undoubled (doubled text) ≡ text }
 {}

@@ -1,10 +1,9 @@
 //! Reads filters by their grammar.
-ghost use Rattle.std.specs.Prelude.{◌≡◌, ◌≤◌, ◌<◌, ◌+◌, ℕ, IfOk, MatchResult, length, if◌then◌else◌};
-ghost use Rattle.mt_model.specs.declared.value.Value.{Value};
+ghost use Rattle.std.specs.Prelude.{◌≡◌, ℕ, IfOk, MatchResult, if◌then◌else◌};
 ghost use Rattle.mt_filter.specs.Tree.{not, tree_of};
 ghost use Rattle.mt_filter.specs.Literal.{IsValue};
 ghost use Rattle.mt_filter.specs.Words.{begins_with_word, after_first_word};
-ghost use Rattle.mt_filter.specs.Grammar.{left, IsFirst, token, none, Part, chain, operand, unary, from, word_of, comparison_of, IsClosing, IsComparison, IsFilter, IsBad};
+ghost use Rattle.mt_filter.specs.Grammar.{left, IsFirst, token, none, chain, operand, unary, from, comparison_of, IsClosing, IsComparison, IsFilter, IsBad};
 ghost use Rattle.mt_filter.specs.Answer.{Answers, AnswersWhole, Ends, Finds, IfBad};
 
 use crate::begin::{Begin, begin_of};
@@ -13,7 +12,7 @@ use crate::filter::{Compare, Field, Filter, FilterFault, FilterKind};
 use crate::lexeme::LexemeKind;
 use crate::next::{Next, Stop, next_lexeme};
 use crate::value::value_of;
-use crate::words::{after_word, compare_of, skip_blanks};
+use crate::words::{after_word, compare_of};
 use mt_model::{NoMemory, Value};
 use std::alloc::Global;
 

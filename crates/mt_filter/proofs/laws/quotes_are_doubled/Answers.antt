@@ -1,5 +1,5 @@
-use Rattle.mt_filter.proofs.Quotes.{singles_of_doubled}
+use Rattle.mt_filter.proofs.Doubling.{text_of_doubled}
 use Rattle.mt_filter.proofs.laws.quotes_are_doubled.Goals as goal
 
 pub returns : goal.returns
-returns c = singles_of_doubled
+returns c = text_of_doubled

@@ -1,4 +1,4 @@
-use Rattle.std.proofs.Common.{◌≤◌, length, subst, arith}
+use Rattle.std.proofs.Common.{subst, arith}
 use Rattle.mt_filter.specs.declared.reader.Halt.{Halt}
 use Rattle.mt_filter.specs.Grammar.{bad, IsWhole}
 use Rattle.mt_filter.specs.Answer.{IfHalted}
