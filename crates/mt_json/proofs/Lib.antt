@@ -4,3 +4,5 @@ pub mod WrittenLaws
 pub mod DraftLaws
 pub mod TagLaws
 pub mod RisingLaws
+pub mod BackLaws
+pub mod GuidLaws

@@ -68,7 +68,7 @@ leaves-etag level.Minimal tag ms h = leaves-put _ (string tag) ms (leaf-text tag
 
 leaves-prop : (l : Level) (chosen : Option (List (List ℕ))) (p : Prop) (old new : Members) → AddsProp l chosen p old new → AreLeaves old → AreLeaves new
 leaves-prop l chosen p old new (inl h) a = subst AreLeaves (sym h.1) a
-leaves-prop l chosen p old new (inr (shown, (d, shows, is))) a =
+leaves-prop l chosen p old new (inr (shown, (d, shows, back, is))) a =
     subst AreLeaves (sym is) (leaves-type l p.name (type_name p.value) (put p.name d old) (leaves-put p.name d old (leaf-shown p.value d shows) a))
 
 leaves-props : (l : Level) (chosen : Option (List (List ℕ))) (ps : List Prop) (old new : Members) → AddProps l chosen ps old new → AreLeaves old → AreLeaves new

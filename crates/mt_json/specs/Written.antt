@@ -1,5 +1,5 @@
 -- What is written for an entity: the JSON that `serde_json` prints compactly.
-use Rattle.std.specs.Prelude.{◌≡◌, ◌⊎◌, ℕ, Bool, true, false, ◌&&◌, List, [], ◌∷◌, codes, bytes_eq, Option, None, Some, if◌then◌else◌}
+use Rattle.std.specs.Prelude.{◌≡◌, ◌⊎◌, ℕ, Bool, true, false, ◌&&◌, List, [], ◌∷◌, codes, bytes_eq, Option, None, Some, option_map, if◌then◌else◌}
 use Rattle.std.specs.List.{list_any}
 use Rattle.std.specs.Fmt.{signed_decimal}
 use Rattle.base64.specs.Engines.{standard}
@@ -18,7 +18,8 @@ use Rattle.mt_model.specs.Tag.{tag_text}
 use Rattle.mt_time.specs.Moment.{HasTicksInFull}
 use Rattle.mt_json.specs.declared.write.Level.{Level}
 use Rattle.mt_json.specs.declared.write.Level.TheVariants as level
-use Rattle.mt_json.specs.Kind.{type_key}
+use Rattle.mt_json.specs.Kind.{kind_of, type_key}
+use Rattle.mt_json.specs.Value.{IsValue}
 use Rattle.mt_json.specs.Body.{Reads}
 
 -- the name of a type that the value alone does not show
@@ -40,6 +41,10 @@ Shows (Binary bytes) d = d ≡ string (encode_of standard bytes)
 Shows (Int64 z) d = d ≡ string (signed_decimal z)
 Shows (Guid bytes) d = d ≡ string (hyphenated_text lower bytes)
 Shows (Moment ticks) d = (text : List ℕ) × (d ≡ string text) × HasTicksInFull text ticks
+
+-- d, beside the value's own type key, is read as the value
+abbrev pub IsReadBack : Value → Data → Type 0
+IsReadBack v d = IsValue (kind_of (option_map string (type_name v))) d v
 
 -- no names were chosen, or the name is among them
 abbrev pub is_chosen : Option (List (List ℕ)) → List ℕ → Bool
@@ -65,11 +70,11 @@ abbrev pub put_etag : Level → List ℕ → Members → Members
 put_etag level.None tag ms = ms
 put_etag level.Minimal tag ms = put (codes "odata.etag") (string tag) ms
 
--- a property that is shown adds its member and its type key, and any other one nothing
+-- a property that is shown adds its member, which beside its type key is read as its value, and its type key; any other adds nothing
 abbrev pub AddsProp : Level → Option (List (List ℕ)) → Prop → Members → Members → Type 0
 AddsProp level chosen p old new =
     ((is_shown chosen p ≡ false) × (new ≡ old))
-    ⊎ ((is_shown chosen p ≡ true) × ((d : Data) × Shows p.value d × (new ≡ put_type level p.name (type_name p.value) (put p.name d old))))
+    ⊎ ((is_shown chosen p ≡ true) × ((d : Data) × Shows p.value d × IsReadBack p.value d × (new ≡ put_type level p.name (type_name p.value) (put p.name d old))))
 
 -- the properties add theirs one after the other
 abbrev pub AddProps : Level → Option (List (List ℕ)) → List Prop → Members → Members → Type 0

@@ -1,5 +1,5 @@
 //! Guids as texts of 8-4-4-4-12 hexadecimal digits, the textual form of RFC 9562.
-ghost use Rattle.std.specs.Prelude.{◌≡◌, IfOk, string_bytes};
+ghost use Rattle.std.specs.Prelude.{◌≡◌, Some, IfOk, string_bytes};
 ghost use Rattle.uuid.specs.Text.{parsed_hyphenated, hyphenated_text, lower};
 
 use std::alloc::{AllocError, Global};
@@ -20,9 +20,11 @@ pub(crate) fn guid_of(text: &str) -> Option<[u8; 16]>
 
 /// The text of a guid, in lower case.
 pub(crate) fn guid_text(alloc: Global, bytes: &[u8; 16]) -> Result<String, AllocError>
-    ensures { IfOk result (λ text. string_bytes text ≡ hyphenated_text lower bytes.now) }
+    ensures text { IfOk result (λ text. string_bytes text ≡ hyphenated_text lower bytes.now) }
+    ensures reads_back { IfOk result (λ text. parsed_hyphenated (string_bytes text) ≡ Some bytes.now) }
 {
     let mut buffer = Uuid::encode_buffer();
     let id = Uuid::from_bytes(*bytes);
-    String::from_str(alloc, id.hyphenated().encode_lower(&mut buffer))
+    let text = id.hyphenated().encode_lower(&mut buffer);
+    String::from_str(alloc, text)
 }

@@ -3,9 +3,10 @@ ghost use Rattle.std.specs.Prelude.{◌≡◌, false, IfOk, OnOk, option_map, by
 ghost use Rattle.std.specs.List.{list_any};
 ghost use Rattle.serde_json.specs.View.{view, members_view};
 ghost use Rattle.mt_model.specs.Value.{is_too_large};
+ghost use Rattle.mt_model.specs.declared.value.Value.TheVariants as value;
 ghost use Rattle.mt_model.specs.Props.{IsProps, too_large_at};
 ghost use Rattle.mt_model.specs.Tag.{tag_text};
-ghost use Rattle.mt_json.specs.Written.{type_name, Shows, is_chosen, is_shown, put_chosen, put_type as with_type, put_etag as with_etag, put_keys as with_keys, put_system as with_system, AddsProp, AddProps, IsObjectOf, IsWritten, IsReadAs};
+ghost use Rattle.mt_json.specs.Written.{type_name, Shows, IsReadBack, is_chosen, is_shown, put_chosen, put_type as with_type, put_etag as with_etag, put_keys as with_keys, put_system as with_system, AddsProp, AddProps, IsObjectOf, IsWritten, IsReadAs};
 
 use crate::guid::guid_text;
 use base64::engine::general_purpose::STANDARD;
@@ -37,18 +38,35 @@ fn type_name(value: &Value) -> Option<&'static str>
     }
 }
 
-/// What is written for a value.
+/// What is written for an Edm.Int64.
+fn json_of_int64(alloc: Global, n: i64) -> Result<Json, NoMemory>
+    ensures shows { IfOk result (λ d. Shows (value.Int64 n) (view d)) }
+    ensures reads_back { IfOk result (λ d. IsReadBack (value.Int64 n) (view d)) }
+{
+    Ok(Json::from(format!(in alloc; "{n}")?))
+}
+
+/// What is written for an Edm.Guid.
+fn json_of_guid(alloc: Global, bytes: [u8; 16]) -> Result<Json, NoMemory>
+    ensures shows { IfOk result (λ d. Shows (value.Guid bytes) (view d)) }
+    ensures reads_back { IfOk result (λ d. IsReadBack (value.Guid bytes) (view d)) }
+{
+    Ok(Json::from(guid_text(alloc, &bytes)?))
+}
+
+/// What is written for a value, which is read as that value beside its own type key.
 fn json_of(alloc: Global, value: &Value) -> Result<Json, NoMemory>
     requires { is_too_large value.now ≡ false }
-    ensures { IfOk result (λ d. Shows value.now (view d)) }
+    ensures shows { IfOk result (λ d. Shows value.now (view d)) }
+    ensures reads_back { IfOk result (λ d. IsReadBack value.now (view d)) }
 {
     match value {
         Value::Str(text) => Ok(Json::from(String::from_str(alloc, text.as_str())?)),
         Value::Bool(b) => Ok(Json::from(*b)),
         Value::Int32(n) => Ok(Json::from(*n)),
         Value::Binary(bytes) => Ok(Json::from(STANDARD.encode(alloc, bytes.as_slice())?)),
-        Value::Int64(n) => Ok(Json::from(format!(in alloc; "{n}")?)),
-        Value::Guid(bytes) => Ok(Json::from(guid_text(alloc, bytes)?)),
+        Value::Int64(n) => json_of_int64(alloc, *n),
+        Value::Guid(bytes) => json_of_guid(alloc, *bytes),
         Value::Moment(ticks) => Ok(Json::from(print_utc(alloc, *ticks)?)),
     }
 }

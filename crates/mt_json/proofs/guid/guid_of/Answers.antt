@@ -1,13 +1,7 @@
-use Rattle.std.proofs.Common.{◌≡◌, ◌∙◌, ℕ, List, length, Option, None, Some, true, false, refl}
-use Rattle.uuid.specs.Text.{parsed, parsed_hyphenated}
+use Rattle.std.proofs.Common.{◌≡◌, ◌∙◌, true, false}
+use Rattle.uuid.specs.Text.{parsed_hyphenated}
+use Rattle.mt_json.proofs.GuidLaws.{none_unless, parsed_36}
 use Rattle.mt_json.proofs.guid.guid_of.Goals as goal
-
-none_unless : (o : Option (List ℕ)) → ((u : List ℕ) → o ≡ Some u → ⊥) → None ≡ o
-none_unless None h = refl
-none_unless (Some u) h = absurd (h u refl)
-
-parsed_36 : (s : List ℕ) → length s ≡ 36 → parsed s ≡ parsed_hyphenated s
-parsed_36 s e = rw e refl
 
 pub returns-in-Err : goal.returns-in-Err
 returns-in-Err c =
