@@ -2,8 +2,8 @@ pub mod KeyLaws
 pub mod RowLaws
 pub mod PutLaws
 pub mod JudgeLaws
-mod OrderLaws
-mod SearchLaws
+pub mod OrderLaws
+pub mod SearchLaws
 mod ChangeLaws
 mod AnswerLaws
 mod TagLaws

@@ -176,7 +176,7 @@ new_reads p pk h (Some row) e =
 
 -- ---- no marker is no row
 
-old_none : (x : Option Stored) → old_state x ≡ NoOld → x ≡ None
+pub old_none : (x : Option Stored) → old_state x ≡ NoOld → x ≡ None
 old_none None e = refl
 old_none (Some row) e = absurd (some_old (old_phase_of row.tag.store row.props) e) where
   some_old : (phase : Option Phase) → old_says phase ≡ NoOld → ⊥
@@ -185,7 +185,7 @@ old_none (Some row) e = absurd (some_old (old_phase_of row.tag.store row.props) 
   some_old (Some PreferOld) e = cc
   some_old (Some PreferNew) e = cc
 
-new_none : (x : Option Stored) → new_state x ≡ NoNew → x ≡ None
+pub new_none : (x : Option Stored) → new_state x ≡ NoNew → x ≡ None
 new_none None e = refl
 new_none (Some row) e = absurd (some_new (new_phase_of row.props) e) where
   some_new : (phase : Option NewPhase) → new_says phase ≡ NoNew → ⊥
