@@ -151,11 +151,11 @@ says_new UseNew e = cc
 later_read : (store : ℕ) → 0 < store → old_phase_of store (marker_props (new_kind UseNew)) ≡ Some UseOld
 later_read store up = rw (lt-ltb 0 store up) refl
 
-new_read : (phase : NewPhase) → new_phase_of (marker_props (new_kind phase)) ≡ Some phase
+pub new_read : (phase : NewPhase) → new_phase_of (marker_props (new_kind phase)) ≡ Some phase
 new_read Filling = refl
 new_read UseNew = refl
 
-old_is : (store : ℕ) (ps : List Prop) → IsOldMarker store ps → (phase : Phase) × (old_phase_of store ps ≡ Some phase)
+pub old_is : (store : ℕ) (ps : List Prop) → IsOldMarker store ps → (phase : Phase) × (old_phase_of store ps ≡ Some phase)
 old_is store ps (inl h) = (h.0, ap (old_phase_of store) h.1 ∙ old_read store h.0)
 old_is store ps (inr h) = (UseOld, ap (old_phase_of store) h.1 ∙ later_read store h.0)
 

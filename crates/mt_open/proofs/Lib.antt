@@ -1,2 +1,7 @@
 pub mod Deciding
 pub mod SoundLaws
+mod FormLaws
+mod RepeatLaws
+mod TagLaws
+mod LeastLaws
+mod FirstLaws

@@ -52,10 +52,10 @@ same_key : (a b : Key) → a.pk ≡ b.pk → a.rk ≡ b.rk → a ≡ b
 same_key a b e f = λ i. key_at (e i) (f i)
 
 own_holds : (p : Pair) → IsSound p → (side : Side) (key : Key) (row : Stored) → row_in p side key ≡ Some row → ¬ FailsOwn p side key row.tag
-own_holds p h side key row found (inl number) = number ((tags_in p h side).number key.pk key.rk row found)
-own_holds p h side key row found (inr (inl zero)) = (let r = (tags_in p h side).range key.pk key.rk row found in omega (arith, r.0, zero))
-own_holds p h side key row found (inr (inr (inl above))) = (let r = (tags_in p h side).range key.pk key.rk row found in omega (arith, r.1, above))
-own_holds p h side key row found (inr (inr (inr s))) =
+own_holds p h side key row found (inl (inl number)) = number ((tags_in p h side).number key.pk key.rk row found)
+own_holds p h side key row found (inl (inr (inl zero))) = (let r = (tags_in p h side).range key.pk key.rk row found in omega (arith, r.0, zero))
+own_holds p h side key row found (inl (inr (inr above))) = (let r = (tags_in p h side).range key.pk key.rk row found in omega (arith, r.1, above))
+own_holds p h side key row found (inr s) =
     (let same = (tags_in p h side).differ s.0.pk s.0.rk key.pk key.rk s.1 row s.3 found s.4 in s.2 (same_key s.0 key same.0 same.1))
 
 kept_holds : (p : Pair) (store : ℕ) (tag : Tag) → IsKept p store tag → ¬ FailsKept p store tag
@@ -201,7 +201,7 @@ no_old_from p h pk e = (marker (new_at p pk marker_key) refl, λ rk other. row r
   row rk other None ex = tt
   row rk other (Some r) ex = λ tomb. fine p h rule.NoOld New (key_at pk rk) r ex (none, inr (other, tomb))
 
-key_or_not : (a b : Key) → Either (a ≡ b)
+pub key_or_not : (a b : Key) → Either (a ≡ b)
 key_or_not a b = go (cases_texts a.pk b.pk) (cases_texts a.rk b.rk) where
   go : Either (a.pk ≡ b.pk) → Either (a.rk ≡ b.rk) → Either (a ≡ b)
   go (inl e) (inl f) = inl (same_key a b e f)
@@ -210,21 +210,21 @@ key_or_not a b = go (cases_texts a.pk b.pk) (cases_texts a.rk b.rk) where
 
 tags_from : (p : Pair) → Nowhere p → (side : Side) → AreTags (number_of p side) (contents_of p side)
 tags_from p h side = record {
-  number = λ pk rk row found. stable (cases_numbers row.tag.store (number_of p side)) (λ other. fine p h rule.Tags side (key_at pk rk) row found (inl (inl other)));
+  number = λ pk rk row found. stable (cases_numbers row.tag.store (number_of p side)) (λ other. fine p h rule.Tags side (key_at pk rk) row found (inl (inl (inl other))));
   range = λ pk rk row found. (from_one pk rk row found, upto pk rk row found);
   differ = λ pk rk a b row other found also same.
-      let k = stable (key_or_not (key_at pk rk) (key_at a b)) (λ ne. fine p h rule.Tags side (key_at a b) other also (inl (inr (inr (inr (key_at pk rk, row, ne, found, same)))))) in
+      let k = stable (key_or_not (key_at pk rk) (key_at a b)) (λ ne. fine p h rule.Tags side (key_at a b) other also (inl (inr (key_at pk rk, row, ne, found, same)))) in
       (ap (λ (x : Key). x.pk) k, ap (λ (x : Key). x.rk) k);
 } where
   from_one : (pk rk : List ℕ) (row : Stored) → row_in p side (key_at pk rk) ≡ Some row → 1 ≤ row.tag.n
   from_one pk rk row found = elim (cases_eq row.tag.n 0) as (λ _. 1 ≤ row.tag.n) [
-    | inl zero ↦ absurd (fine p h rule.Tags side (key_at pk rk) row found (inl (inr (inl zero))))
+    | inl zero ↦ absurd (fine p h rule.Tags side (key_at pk rk) row found (inl (inl (inr (inl zero)))))
     | inr ne ↦ omega (arith, ne)
   ]
 
   upto : (pk rk : List ℕ) (row : Stored) → row_in p side (key_at pk rk) ≡ Some row → row.tag.n ≤ (contents_of p side).counter
   upto pk rk row found = elim (cases_lt (contents_of p side).counter row.tag.n) as (λ _. row.tag.n ≤ (contents_of p side).counter) [
-    | inl above ↦ absurd (fine p h rule.Tags side (key_at pk rk) row found (inl (inr (inr (inl above)))))
+    | inl above ↦ absurd (fine p h rule.Tags side (key_at pk rk) row found (inl (inl (inr (inr above)))))
     | inr le ↦ omega (arith, le)
   ]
 

@@ -1,5 +1,5 @@
 -- Where two stores fail a rule of a sound pair, and the first such place.
-use Rattle.std.specs.Prelude.{◌≡◌, ◌≢◌, ◌⊎◌, ℕ, ◌<◌, ◌≤◌, IsTrue, true, false, List, [], Option, Some, None}
+use Rattle.std.specs.Prelude.{◌≡◌, ◌≢◌, ◌⊎◌, ℕ, ◌<◌, ◌≤◌, IsTrue, true, false, List, [], ◌∷◌, Option, Some, None}
 use Rattle.std.specs.Ordering.{nat_cmp, ordering_then, is_le}
 use Rattle.std.specs.declared.cmp.Ordering.{Ordering}
 use Rattle.mt_model.specs.declared.key.Key.{Key}
@@ -31,6 +31,10 @@ rule_number rule.PreferNew = 5
 rule_number rule.NoOld = 6
 rule_number rule.Tags = 7
 rule_number rule.Unsealed = 8
+
+-- the rules, in their order
+abbrev pub all_rules : List Rule
+all_rules = rule.Forms ∷ rule.Marked ∷ rule.UseOld ∷ rule.PreferOld ∷ rule.PreferNew ∷ rule.NoOld ∷ rule.Tags ∷ rule.Unsealed ∷ []
 
 -- the number of one of the two stores
 abbrev pub number_of : Pair → Side → ℕ
@@ -74,10 +78,13 @@ IsShared p side key tag = (other : Key) × (found : Stored) × (other ≢ key) �
 abbrev pub FailsKept : Pair → ℕ → Tag → Type 0
 FailsKept p store tag = (store ≤ tag.store) ⊎ ((tag.n ≡ 0) ⊎ ((tag.store ≡ p.old_number) × (p.old.counter < tag.n)))
 
--- a tag is of another store, or its n is 0 or above the store's counter, or another row has it
+-- a tag is of another store, or its n is 0 or above the store's counter
+abbrev pub FailsNumber : Pair → Side → Tag → Type 0
+FailsNumber p side tag = (tag.store ≢ number_of p side) ⊎ ((tag.n ≡ 0) ⊎ ((contents_of p side).counter < tag.n))
+
+-- a tag is none that the store gave, or another row has it
 abbrev pub FailsOwn : Pair → Side → Key → Tag → Type 0
-FailsOwn p side key tag =
-    (tag.store ≢ number_of p side) ⊎ ((tag.n ≡ 0) ⊎ (((contents_of p side).counter < tag.n) ⊎ IsShared p side key tag))
+FailsOwn p side key tag = FailsNumber p side tag ⊎ IsShared p side key tag
 
 -- the row is a copy, and its kept tag fails
 abbrev pub FailsCopy : Pair → Side → List Prop → Type 0
@@ -99,6 +106,13 @@ RowFails p rule.NoOld New key row = (old_at p key.pk marker_key ≡ None)
     × (((key.rk ≡ marker_key) × ((new_state (Some row) ≢ AtUseNew) ⊎ (p.old.sealed ≡ false))) ⊎ ((key.rk ≢ marker_key) × (mark_of row.props ≡ Some Tomb)))
 RowFails p rule.Tags side key row = FailsOwn p side key row.tag ⊎ FailsCopy p side row.props
 RowFails p rule.Unsealed side key row = ⊥
+
+-- the rules that speak of both stores' markers, and the one that speaks of no row
+abbrev pub SpeaksOfMarkers : Rule → Type 0
+SpeaksOfMarkers rule.Forms = ⊥
+SpeaksOfMarkers rule.Marked = ⊥
+SpeaksOfMarkers rule.Tags = ⊥
+SpeaksOfMarkers r = Unit {0}
 
 -- a place where two stores may fail: a rule, one of the stores, and a key
 pub record Place : Type 0 where
@@ -122,16 +136,44 @@ abbrev pub side_number : Side → ℕ
 side_number Old = 0
 side_number New = 1
 
+-- by key, then old before new
+abbrev pub spot_cmp : Key → Side → Key → Side → Ordering
+spot_cmp a s b t = ordering_then (key_cmp a b) (nat_cmp (side_number s) (side_number t))
+
 -- by rule, then by key, then old before new
 abbrev pub place_cmp : Place → Place → Ordering
 place_cmp a b = ordering_then (nat_cmp (rule_number a.rule) (rule_number b.rule))
-    (ordering_then (key_cmp a.key b.key) (nat_cmp (side_number a.side) (side_number b.side)))
+    (spot_cmp a.key a.side b.key b.side)
 
 -- the stores fail there, and nowhere before
 pub record IsFirst (p : Pair) (at : Place) : Type 0 where
   pub fails : FailsAt p at
   pub least : (other : Place) → FailsAt p other → IsTrue (is_le (place_cmp at other))
 
+abbrev pub place : Rule → Side → Key → Place
+place r side key = record { rule = r; side = side; key = key }
+
+-- the rows of one store fail a rule nowhere, or least at a key
+abbrev pub IsLeastIn : Pair → Rule → Side → Option Key → Type 0
+IsLeastIn p r side None = (key : Key) → ¬ FailsByRow p (place r side key)
+IsLeastIn p r side (Some key) = FailsByRow p (place r side key)
+    × ((other : Key) → FailsByRow p (place r side other) → IsTrue (is_le (key_cmp key other)))
+
+-- the rows of both stores fail a rule first there
+abbrev pub IsFirstAt : Pair → Rule → Side → Key → Type 0
+IsFirstAt p r side key = FailsByRow p (place r side key)
+    × ((s : Side) (k : Key) → FailsByRow p (place r s k) → IsTrue (is_le (spot_cmp key side k s)))
+
+-- the rows of both stores fail a rule nowhere, or first at a damage
+abbrev pub IsFirstBy : Pair → Rule → Option Damage → Type 0
+IsFirstBy p r None = (side : Side) (key : Key) → ¬ FailsByRow p (place r side key)
+IsFirstBy p r (Some d) = (side : Side) × (d.rule ≡ r) × (d.store ≡ number_of p side) × IsFirstAt p r side d.key
+
 -- the first place where the stores fail, with the number of the store
 abbrev pub IsDamage : Pair → Damage → Type 0
 IsDamage p d = (side : Side) × (d.store ≡ number_of p side) × IsFirst p (record { rule = d.rule; side = side; key = d.key })
+
+-- no row fails a rule, or this is the first damage
+abbrev pub IsFirstByRows : Pair → Option Damage → Type 0
+IsFirstByRows p None = (at : Place) → ¬ FailsByRow p at
+IsFirstByRows p (Some d) = IsDamage p d

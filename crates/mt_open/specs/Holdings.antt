@@ -1,6 +1,6 @@
 -- Two stores that were read whole.
 use Rattle.mt_meta.specs.Logical.{Pair}
-use Rattle.mt_open.specs.declared.holding.Holdings.{Holdings}
+use Rattle.mt_open.specs.declared.holdings.Holdings.{Holdings}
 
 -- two stores, the old one and the new one
 abbrev pub pair_of : Holdings → Pair

@@ -1,3 +1,4 @@
 pub mod Damage
 pub mod Held
 pub mod Holdings
+pub mod Repeats

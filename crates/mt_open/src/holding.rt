@@ -32,13 +32,6 @@ impl Model for Holding {
     ghost invariant = { λ h. IsTrue (are_rising h.rows.items) };
 }
 
-/// The old store and the new one.
-#[derive(Drop)]
-pub struct Holdings {
-    pub old: Holding,
-    pub new: Holding,
-}
-
 /// How a key stands to the key of two texts.
 fn compare(key: &Key, pk: &Text, rk: &str) -> Ordering
     ensures { result ≡ key_cmp key.now (key_at pk.now rk.now) }
@@ -50,7 +43,7 @@ fn compare(key: &Key, pk: &Text, rk: &str) -> Ordering
 }
 
 /// The place of the row at a key, or where one would stand.
-fn place_of(rows: &[(Key, Stored)], pk: &Text, rk: &str) -> Result<usize, usize>
+pub(crate) fn place_of(rows: &[(Key, Stored)], pk: &Text, rk: &str) -> Result<usize, usize>
     requires { IsTrue (are_rising rows.now) }
     ensures { EndsAt (λ k. key_cmp k (key_at pk.now rk.now)) rows.now result }
 {
@@ -73,7 +66,7 @@ fn row_at<'a>(rows: &'a [(Key, Stored)], pk: &Text, rk: &str) -> Option<&'a Stor
 }
 
 /// The row key of a marker.
-const MARKER_KEY: &str = "\u{1}";
+pub(crate) const MARKER_KEY: &str = "\u{1}";
 
 impl Holding {
     /// What a store of that number holds. The keys rise.

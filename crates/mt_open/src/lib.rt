@@ -3,9 +3,18 @@
 #![tactic(auto)]
 
 mod damage;
+mod first;
+mod forms;
 mod holding;
+mod holdings;
 mod laws;
+mod phases;
+mod tags;
+#[cfg(test)]
+mod tests;
 
 pub use damage::{Damage, Rule, Side};
-pub use holding::{Holding, Holdings};
+pub use first::first_damage;
+pub use holding::Holding;
+pub use holdings::Holdings;
 pub use laws::sound_fails_nowhere;
