@@ -8,107 +8,76 @@ use mt_model::{Hidden, Key, Name, Prop, Props, Tag, Text, Value};
 use std::alloc::Global;
 use std::test::Fail;
 
-/// A row of a store: its key, its tag, the texts of `$kind` and `$tag` if it has them, and whether it
-/// has a client's property.
+/// A row of a store, by its form: its key, and its tag as store and number.
 #[derive(Clone, Copy)]
-struct Line {
-    pk: &'static str,
-    rk: &'static str,
-    store: u32,
-    n: u64,
-    kind: Option<&'static str>,
-    kept: Option<&'static str>,
-    has_value: bool,
+enum Line {
+    /// Partition key, tag, and the text of `$kind`.
+    Marker(&'static str, u32, u64, &'static str),
+    /// A marker that has a client's property too.
+    OddMarker(&'static str, u32, u64, &'static str),
+    Plain(&'static str, &'static str, u32, u64),
+    Live(&'static str, &'static str, u32, u64),
+    /// The last is the text of `$tag`.
+    Copy(&'static str, &'static str, u32, u64, &'static str),
+    Tomb(&'static str, &'static str, u32, u64),
+    /// A tombstone that has a client's property.
+    OddTomb(&'static str, &'static str, u32, u64),
 }
+
+use Line::{Copy, Live, Marker, OddMarker, OddTomb, Plain, Tomb};
 
 const MARKER: &str = "\u{1}";
 
-const fn marker(pk: &'static str, store: u32, n: u64, kind: &'static str) -> Line {
-    Line {
-        pk,
-        rk: MARKER,
-        store,
-        n,
-        kind: Some(kind),
-        kept: None,
-        has_value: false,
+/// The texts of `$kind` and `$tag`, if there are any, and whether there is a client's property.
+fn texts_of(line: Line) -> (Option<&'static str>, Option<&'static str>, bool) {
+    match line {
+        Marker(_, _, _, kind) => (Some(kind), None, false),
+        OddMarker(_, _, _, kind) => (Some(kind), None, true),
+        Plain(_, _, _, _) => (None, None, true),
+        Live(_, _, _, _) => (Some("live"), None, true),
+        Copy(_, _, _, _, kept) => (Some("copy"), Some(kept), true),
+        Tomb(_, _, _, _) => (Some("tomb"), None, false),
+        OddTomb(_, _, _, _) => (Some("tomb"), None, true),
     }
 }
 
-const fn plain(pk: &'static str, rk: &'static str, store: u32, n: u64) -> Line {
-    Line {
-        pk,
-        rk,
-        store,
-        n,
-        kind: None,
-        kept: None,
-        has_value: true,
-    }
-}
-
-const fn live(pk: &'static str, rk: &'static str, store: u32, n: u64) -> Line {
-    Line {
-        pk,
-        rk,
-        store,
-        n,
-        kind: Some("live"),
-        kept: None,
-        has_value: true,
-    }
-}
-
-const fn copy(pk: &'static str, rk: &'static str, store: u32, n: u64, kept: &'static str) -> Line {
-    Line {
-        pk,
-        rk,
-        store,
-        n,
-        kind: Some("copy"),
-        kept: Some(kept),
-        has_value: true,
-    }
-}
-
-const fn tomb(pk: &'static str, rk: &'static str, store: u32, n: u64) -> Line {
-    Line {
-        pk,
-        rk,
-        store,
-        n,
-        kind: Some("tomb"),
-        kept: None,
-        has_value: false,
+/// The key, and the tag.
+fn place_of_line(line: Line) -> (&'static str, &'static str, Tag) {
+    match line {
+        Marker(pk, store, n, _) => (pk, MARKER, Tag { store, n }),
+        OddMarker(pk, store, n, _) => (pk, MARKER, Tag { store, n }),
+        Plain(pk, rk, store, n) => (pk, rk, Tag { store, n }),
+        Live(pk, rk, store, n) => (pk, rk, Tag { store, n }),
+        Copy(pk, rk, store, n, _) => (pk, rk, Tag { store, n }),
+        Tomb(pk, rk, store, n) => (pk, rk, Tag { store, n }),
+        OddTomb(pk, rk, store, n) => (pk, rk, Tag { store, n }),
     }
 }
 
 fn props_of(alloc: Global, line: Line) -> Result<Props, Fail> {
+    let (kind, kept, has_value) = texts_of(line);
     let mut list = Vec::new(alloc);
-    if line.has_value {
+    if has_value {
         list.push(Prop {
             name: Name::read(alloc, "a")?,
             value: Value::Bool(true),
         })?;
     }
     let mut props = Props::build(alloc, list)?;
-    if let Some(kind) = line.kind {
+    if let Some(kind) = kind {
         props.add_hidden(alloc, Hidden::Kind, kind)?;
     }
-    if let Some(kept) = line.kept {
+    if let Some(kept) = kept {
         props.add_hidden(alloc, Hidden::Tag, kept)?;
     }
     Ok(props)
 }
 
 fn row_of(alloc: Global, line: Line) -> Result<(Key, Stored), Fail> {
+    let (pk, rk, tag) = place_of_line(line);
     let props = props_of(alloc, line)?;
-    let pk = Text::of(alloc, line.pk)?;
-    let rk = Text::of(alloc, line.rk)?;
-    let tag = Tag {
-        store: line.store,
-        n: line.n,
-    };
+    let pk = Text::of(alloc, pk)?;
+    let rk = Text::of(alloc, rk)?;
     Ok((Key { pk, rk }, Stored { props, tag }))
 }
 
@@ -193,7 +162,7 @@ const SOUND: [Case; 7] = [
         damage: None,
     },
     Case {
-        old: (0, &[marker("p", 0, 1, "use-old")], false, 1),
+        old: (0, &[Marker("p", 0, 1, "use-old")], false, 1),
         new: EMPTY,
         damage: None,
     },
@@ -202,8 +171,8 @@ const SOUND: [Case; 7] = [
         old: (
             1,
             &[
-                marker("p", 1, 3, "use-new"),
-                copy("p", "r", 1, 2, "W/\"0.2\""),
+                Marker("p", 1, 3, "use-new"),
+                Copy("p", "r", 1, 2, "W/\"0.2\""),
             ],
             false,
             3,
@@ -215,15 +184,15 @@ const SOUND: [Case; 7] = [
     Case {
         old: (
             0,
-            &[marker("p", 0, 3, "prefer-old"), plain("p", "r", 0, 2)],
+            &[Marker("p", 0, 3, "prefer-old"), Plain("p", "r", 0, 2)],
             false,
             3,
         ),
         new: (
             1,
             &[
-                marker("p", 1, 1, "filling"),
-                copy("p", "r", 1, 2, "W/\"0.2\""),
+                Marker("p", 1, 1, "filling"),
+                Copy("p", "r", 1, 2, "W/\"0.2\""),
             ],
             false,
             2,
@@ -234,16 +203,16 @@ const SOUND: [Case; 7] = [
     Case {
         old: (
             0,
-            &[marker("p", 0, 3, "prefer-new"), plain("p", "r", 0, 2)],
+            &[Marker("p", 0, 3, "prefer-new"), Plain("p", "r", 0, 2)],
             false,
             3,
         ),
         new: (
             1,
             &[
-                marker("p", 1, 1, "filling"),
-                tomb("p", "r", 1, 3),
-                live("p", "s", 1, 2),
+                Marker("p", 1, 1, "filling"),
+                Tomb("p", "r", 1, 3),
+                Live("p", "s", 1, 2),
             ],
             false,
             3,
@@ -254,11 +223,11 @@ const SOUND: [Case; 7] = [
     Case {
         old: (
             0,
-            &[marker("p", 0, 3, "prefer-new"), plain("p", "r", 0, 2)],
+            &[Marker("p", 0, 3, "prefer-new"), Plain("p", "r", 0, 2)],
             false,
             3,
         ),
-        new: (1, &[marker("p", 1, 1, "use-new")], false, 1),
+        new: (1, &[Marker("p", 1, 1, "use-new")], false, 1),
         damage: None,
     },
     // The partition is in new alone.
@@ -266,7 +235,7 @@ const SOUND: [Case; 7] = [
         old: (0, &[], true, 0),
         new: (
             1,
-            &[marker("p", 1, 1, "use-new"), live("p", "r", 1, 2)],
+            &[Marker("p", 1, 1, "use-new"), Live("p", "r", 1, 2)],
             false,
             2,
         ),
@@ -281,18 +250,18 @@ fn finds_no_damage(rt: HostRuntime) -> Result<(), Fail> {
     Ok(())
 }
 
-const PREFER_OLD: Line = marker("p", 0, 1, "prefer-old");
+const PREFER_OLD: Line = Marker("p", 0, 1, "prefer-old");
 
-const USE_NEW: Line = marker("p", 1, 1, "use-new");
+const USE_NEW: Line = Marker("p", 1, 1, "use-new");
 
 const DAMAGED: [Case; 25] = [
     Case {
-        old: (0, &[marker("p", 0, 1, "use-old")], false, 1),
+        old: (0, &[Marker("p", 0, 1, "use-old")], false, 1),
         new: (
             1,
             &[
-                marker("p", 1, 1, "filling"),
-                copy("p", "r", 1, 2, "W/\"0.2\""),
+                Marker("p", 1, 1, "filling"),
+                Copy("p", "r", 1, 2, "W/\"0.2\""),
             ],
             false,
             2,
@@ -305,7 +274,7 @@ const DAMAGED: [Case; 25] = [
         damage: Some((8, 1, "", "")),
     },
     Case {
-        old: (0, &[marker("p", 0, 1, "prefer-new")], false, 1),
+        old: (0, &[Marker("p", 0, 1, "prefer-new")], false, 1),
         new: EMPTY,
         damage: Some((5, 0, "p", MARKER)),
     },
@@ -314,8 +283,8 @@ const DAMAGED: [Case; 25] = [
         old: (
             0,
             &[
-                marker("p", 0, 3, "use-new"),
-                copy("p", "r", 0, 2, "W/\"0.2\""),
+                Marker("p", 0, 3, "use-new"),
+                Copy("p", "r", 0, 2, "W/\"0.2\""),
             ],
             false,
             3,
@@ -326,7 +295,7 @@ const DAMAGED: [Case; 25] = [
     Case {
         old: (
             0,
-            &[marker("p", 0, 1, "use-old"), live("p", "r", 0, 2)],
+            &[Marker("p", 0, 1, "use-old"), Live("p", "r", 0, 2)],
             false,
             2,
         ),
@@ -335,49 +304,30 @@ const DAMAGED: [Case; 25] = [
     },
     // A marker with a client's property, and a row of new without a mark.
     Case {
-        old: (
-            0,
-            &[Line {
-                has_value: true,
-                ..marker("p", 0, 1, "use-old")
-            }],
-            false,
-            1,
-        ),
+        old: (0, &[OddMarker("p", 0, 1, "use-old")], false, 1),
         new: EMPTY,
         damage: Some((1, 0, "p", MARKER)),
     },
     Case {
         old: (0, &[], true, 0),
-        new: (1, &[USE_NEW, plain("p", "r", 1, 2)], false, 2),
+        new: (1, &[USE_NEW, Plain("p", "r", 1, 2)], false, 2),
         damage: Some((1, 1, "p", "r")),
     },
     Case {
         old: (0, &[], true, 0),
-        new: (
-            1,
-            &[
-                USE_NEW,
-                Line {
-                    has_value: true,
-                    ..tomb("p", "r", 1, 2)
-                },
-            ],
-            false,
-            2,
-        ),
+        new: (1, &[USE_NEW, OddTomb("p", "r", 1, 2)], false, 2),
         damage: Some((1, 1, "p", "r")),
     },
     // Keys that no client can have.
     Case {
-        old: (0, &[marker("a/b", 0, 1, "use-old")], false, 1),
+        old: (0, &[Marker("a/b", 0, 1, "use-old")], false, 1),
         new: EMPTY,
         damage: Some((1, 0, "a/b", MARKER)),
     },
     Case {
         old: (
             0,
-            &[marker("p", 0, 1, "use-old"), plain("p", "r#", 0, 2)],
+            &[Marker("p", 0, 1, "use-old"), Plain("p", "r#", 0, 2)],
             false,
             2,
         ),
@@ -386,17 +336,17 @@ const DAMAGED: [Case; 25] = [
     },
     // No marker: at equal keys old's row, else the least.
     Case {
-        old: (0, &[plain("p", "r", 0, 1)], false, 1),
-        new: (1, &[live("p", "r", 1, 1)], false, 1),
+        old: (0, &[Plain("p", "r", 0, 1)], false, 1),
+        new: (1, &[Live("p", "r", 1, 1)], false, 1),
         damage: Some((2, 0, "p", "r")),
     },
     Case {
-        old: (0, &[plain("p", "s", 0, 1), plain("q", "r", 0, 2)], false, 2),
-        new: (1, &[live("p", "r", 1, 1)], false, 1),
+        old: (0, &[Plain("p", "s", 0, 1), Plain("q", "r", 0, 2)], false, 2),
+        new: (1, &[Live("p", "r", 1, 1)], false, 1),
         damage: Some((2, 1, "p", "r")),
     },
     Case {
-        old: (0, &[plain("p", "s", 0, 1), plain("p", "t", 0, 2)], false, 2),
+        old: (0, &[Plain("p", "s", 0, 1), Plain("p", "t", 0, 2)], false, 2),
         new: EMPTY,
         damage: Some((2, 0, "p", "s")),
     },
@@ -409,7 +359,7 @@ const DAMAGED: [Case; 25] = [
         old: (0, &[PREFER_OLD], false, 1),
         new: (
             1,
-            &[marker("p", 1, 1, "filling"), live("p", "s", 1, 2)],
+            &[Marker("p", 1, 1, "filling"), Live("p", "s", 1, 2)],
             false,
             2,
         ),
@@ -422,27 +372,27 @@ const DAMAGED: [Case; 25] = [
     },
     Case {
         old: (0, &[], true, 0),
-        new: (1, &[marker("p", 1, 1, "filling")], false, 1),
+        new: (1, &[Marker("p", 1, 1, "filling")], false, 1),
         damage: Some((6, 1, "p", MARKER)),
     },
     Case {
         old: (0, &[], true, 0),
-        new: (1, &[USE_NEW, tomb("p", "r", 1, 2)], false, 2),
+        new: (1, &[USE_NEW, Tomb("p", "r", 1, 2)], false, 2),
         damage: Some((6, 1, "p", "r")),
     },
     // Tags of another store, of n 0, above the counter, and of two rows.
     Case {
-        old: (0, &[marker("p", 1, 1, "use-old")], false, 1),
+        old: (0, &[Marker("p", 1, 1, "use-old")], false, 1),
         new: EMPTY,
         damage: Some((7, 0, "p", MARKER)),
     },
     Case {
-        old: (0, &[marker("p", 0, 0, "use-old")], false, 1),
+        old: (0, &[Marker("p", 0, 0, "use-old")], false, 1),
         new: EMPTY,
         damage: Some((7, 0, "p", MARKER)),
     },
     Case {
-        old: (0, &[marker("p", 0, 2, "use-old")], false, 1),
+        old: (0, &[Marker("p", 0, 2, "use-old")], false, 1),
         new: EMPTY,
         damage: Some((7, 0, "p", MARKER)),
     },
@@ -450,9 +400,9 @@ const DAMAGED: [Case; 25] = [
         old: (
             0,
             &[
-                marker("p", 0, 1, "use-old"),
-                plain("p", "r", 0, 2),
-                plain("p", "s", 0, 2),
+                Marker("p", 0, 1, "use-old"),
+                Plain("p", "r", 0, 2),
+                Plain("p", "s", 0, 2),
             ],
             false,
             2,
@@ -466,8 +416,8 @@ const DAMAGED: [Case; 25] = [
         new: (
             1,
             &[
-                marker("p", 1, 1, "filling"),
-                copy("p", "r", 1, 2, "W/\"1.1\""),
+                Marker("p", 1, 1, "filling"),
+                Copy("p", "r", 1, 2, "W/\"1.1\""),
             ],
             false,
             2,
@@ -479,8 +429,8 @@ const DAMAGED: [Case; 25] = [
         new: (
             1,
             &[
-                marker("p", 1, 1, "filling"),
-                copy("p", "r", 1, 2, "W/\"0.0\""),
+                Marker("p", 1, 1, "filling"),
+                Copy("p", "r", 1, 2, "W/\"0.0\""),
             ],
             false,
             2,
@@ -492,8 +442,8 @@ const DAMAGED: [Case; 25] = [
         new: (
             1,
             &[
-                marker("p", 1, 1, "filling"),
-                copy("p", "r", 1, 2, "W/\"0.2\""),
+                Marker("p", 1, 1, "filling"),
+                Copy("p", "r", 1, 2, "W/\"0.2\""),
             ],
             false,
             2,
