@@ -1,5 +1,5 @@
 -- Whether a row has a form is decided: one of both is so.
-use Rattle.std.proofs.Common.{◌≡◌, ◌≢◌, ◌⊎◌, ℕ, ◌<◌, Bool, true, false, ◌&&◌, List, [], Option, Some, None, refl, sym, ap, subst, ◌∙◌, inl, inr, cond, ◌==◌}
+use Rattle.std.proofs.Common.{◌≡◌, ◌⊎◌, ℕ, ◌<◌, Bool, true, false, ◌&&◌, List, Option, Some, None, refl, sym, ap, subst, ◌∙◌, inl, inr, cond, ◌==◌}
 use Rattle.std.specs.Prelude.{nat_lt, bytes_eq, filter, option_map, codes}
 use Rattle.std.specs.Bool.{Decides}
 use Rattle.std.proofs.lemmas.Bool.{ltb-true, and_parts}
@@ -22,7 +22,7 @@ use Rattle.mt_meta.specs.declared.marker.NewPhase.TheVariants.{Filling, UseNew}
 use Rattle.mt_meta.specs.declared.mark.Mark.{Mark}
 use Rattle.mt_meta.specs.declared.mark.Mark.TheVariants.{Live, Copy, Tomb}
 use Rattle.mt_meta.specs.Markers.{marker_key, marker_props, old_kind, new_kind}
-use Rattle.mt_meta.specs.Marks.{mark_of, mark_in, mark_named, copy_named, stored}
+use Rattle.mt_meta.specs.Marks.{mark_of, mark_in, stored}
 use Rattle.mt_meta.specs.TagTexts.{read_tag, spelled, is_tag}
 use Rattle.mt_meta.specs.Logical.{Pair}
 use Rattle.mt_meta.specs.Sound.{IsOldMarker, IsNewMarker, HasTag, IsEntry, IsOldRow}

@@ -1,5 +1,5 @@
 -- The first place over both stores, and over all rules.
-use Rattle.std.proofs.Common.{◌≡◌, ◌≢◌, ◌⊎◌, ℕ, zero, suc, ◌+◌, ◌<◌, ◌≤◌, Bool, true, false, cond, List, [], ◌∷◌, length, get_or, Option, Some, None, refl, sym, ap, subst, ◌∙◌, inl, inr, arith, Less, Equal, Greater, Ordering}
+use Rattle.std.proofs.Common.{◌≡◌, ℕ, zero, suc, ◌+◌, ◌<◌, ◌≤◌, true, false, [], get_or, Some, None, refl, sym, ap, subst, ◌∙◌, inl, inr, arith, Less, Equal, Greater, Ordering}
 use Rattle.std.specs.Prelude.{IsTrue}
 use Rattle.std.specs.Ordering.{is_le, ordering_then, nat_cmp}
 use Rattle.std.specs.Cmp.{nat_cmp_is, alike_right}
@@ -15,7 +15,7 @@ use Rattle.mt_open.specs.declared.damage.Rule.TheVariants as rule
 use Rattle.mt_open.specs.declared.damage.Side.{Side}
 use Rattle.mt_open.specs.declared.damage.Side.TheVariants.{Old, New}
 use Rattle.mt_open.specs.declared.damage.Damage.{Damage}
-use Rattle.mt_open.specs.Damage.{rule_number, number_of, Place, FailsByRow, FailsBySeal, FailsAt, place, spot_cmp, place_cmp, IsLeastIn, IsFirstAt, IsFirstBy, IsFirst, IsDamage, all_rules}
+use Rattle.mt_open.specs.Damage.{rule_number, Place, FailsByRow, FailsAt, place, spot_cmp, place_cmp, IsLeastIn, IsFirstAt, IsFirstBy, IsFirst, IsDamage, all_rules}
 
 -- ---- orders
 

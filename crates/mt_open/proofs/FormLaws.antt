@@ -1,9 +1,9 @@
 -- What the code asks of a row, and its form.
-use Rattle.std.proofs.Common.{◌≡◌, ◌≢◌, ◌⊎◌, ℕ, ◌<◌, Bool, true, false, cond, ◌&&◌, List, [], ◌∷◌, length, Option, Some, None, Result, Ok, Err, refl, sym, ap, subst, ◌∙◌, inl, inr, arith}
+use Rattle.std.proofs.Common.{◌≡◌, ◌⊎◌, ℕ, ◌<◌, Bool, true, false, cond, ◌&&◌, List, [], ◌∷◌, length, Option, Some, None, Result, Ok, Err, refl, sym, ap, ◌∙◌, inl, inr, arith}
 use Rattle.std.specs.Prelude.{nat_lt, bytes_eq, filter, option_map, codes, IsTrue, IfOk}
 use Rattle.std.specs.List.{list_all}
 use Rattle.std.specs.Option.{is_some, option_or}
-use Rattle.std.proofs.lemmas.Bool.{ltb-true, and_parts, lt-ltb}
+use Rattle.std.proofs.lemmas.Bool.{ltb-true, and_parts}
 use Rattle.mt_model.specs.declared.key.KeyFault.{KeyFault}
 use Rattle.mt_model.specs.declared.key.KeyPart.TheVariants.{Partition, Row}
 use Rattle.mt_model.specs.declared.name.Hidden.TheVariants as hidden

@@ -1,7 +1,7 @@
 -- The least key of the rows that fail, and the first place over both stores and all rules.
-use Rattle.std.proofs.Common.{◌≡◌, ◌≢◌, ◌⊎◌, ℕ, zero, suc, ◌+◌, ◌<◌, ◌≤◌, Bool, true, false, not, cond, List, [], ◌∷◌, length, get_or, Option, Some, None, refl, sym, ap, subst, ◌∙◌, inl, inr, arith, Less, Equal, Greater, Ordering}
+use Rattle.std.proofs.Common.{◌≡◌, ℕ, suc, ◌+◌, ◌<◌, ◌≤◌, Bool, true, false, not, cond, [], ◌∷◌, length, get_or, Some, None, refl, sym, ap, subst, ◌∙◌, inl, inr, arith, Less, Equal}
 use Rattle.std.specs.Prelude.{IsTrue}
-use Rattle.std.specs.Ordering.{is_eq, is_le, eq_by_cmp}
+use Rattle.std.specs.Ordering.{is_le, eq_by_cmp}
 use Rattle.std.specs.FinMap.Entries.{find}
 use Rattle.std.proofs.lemmas.Bool.{cases_lt, cases_eq}
 use Rattle.std.proofs.lemmas.List.{get_or_default}
@@ -13,7 +13,7 @@ use Rattle.mt_chain.proofs.SearchLaws.{find_at, rises}
 use Rattle.mt_meta.specs.Logical.{Pair}
 use Rattle.mt_open.specs.declared.damage.Rule.{Rule}
 use Rattle.mt_open.specs.declared.damage.Side.{Side}
-use Rattle.mt_open.specs.Damage.{contents_of, row_in, RowFails, FailsByRow, place, IsLeastIn}
+use Rattle.mt_open.specs.Damage.{contents_of, RowFails, FailsByRow, place, IsLeastIn}
 use Rattle.mt_open.proofs.RepeatLaws.{self_tied, tied_true, eq_equal}
 
 abbrev Entry : Type 0

@@ -5,3 +5,4 @@ mod RepeatLaws
 mod TagLaws
 mod LeastLaws
 mod FirstLaws
+mod TableLaws

@@ -1,18 +1,17 @@
 -- Rows counted by their tags, and rows that share one.
-use Rattle.std.proofs.Common.{◌≡◌, ◌≢◌, ◌⊎◌, ℕ, zero, suc, ◌+◌, ◌<◌, ◌≤◌, Bool, true, false, cond, ◌&&◌, ◌||◌, ◌==◌, List, [], ◌∷◌, length, get_or, take, Option, Some, None, refl, sym, ap, subst, ◌∙◌, inl, inr, arith, Less, Equal, Greater, Ordering}
-use Rattle.std.specs.Prelude.{nat_le, count_by}
+use Rattle.std.proofs.Common.{◌≡◌, ◌≢◌, ℕ, zero, suc, ◌+◌, ◌<◌, ◌≤◌, Bool, true, false, cond, ◌&&◌, ◌||◌, ◌==◌, [], ◌∷◌, length, get_or, take, Some, refl, sym, ap, subst, ◌∙◌, inl, inr, arith, Less, Equal, Greater, Ordering}
+use Rattle.std.specs.Prelude.{nat_le}
 use Rattle.std.specs.Ordering.{is_eq, is_lt, eq_by_cmp, nat_cmp, ordering_reverse}
 use Rattle.std.specs.BTreeSet.{BTreeSet, contains}
-use Rattle.std.specs.FinMap.Entries.{find, below_all, is_sorted}
-use Rattle.std.proofs.lemmas.Bool.{and_parts, eq-eqb}
+use Rattle.std.specs.FinMap.Entries.{find, below_all}
+use Rattle.std.proofs.lemmas.Bool.{and_parts}
 use Rattle.std.proofs.lemmas.Bool.Decides.{nat_tests, Decides-eqb}
 use Rattle.std.proofs.lemmas.List.Sums.{count_by_more_yes, count_by_more_no, sum_by-cons}
 use Rattle.mt_model.specs.declared.key.Key.{Key}
-use Rattle.mt_model.specs.declared.tag.Tag.{Tag}
 use Rattle.mt_model.specs.Key.{key_cmp}
 use Rattle.mt_chain.specs.declared.row.Stored.{Stored}
-use Rattle.mt_chain.specs.Rows.{Rows, row_at, are_rising}
-use Rattle.mt_chain.proofs.KeyLaws.{key_total, key_ties, is_tied, text_same}
+use Rattle.mt_chain.specs.Rows.{Rows, are_rising}
+use Rattle.mt_chain.proofs.KeyLaws.{key_total, key_ties}
 use Rattle.mt_chain.proofs.OrderLaws.{lt_less, reversed}
 use Rattle.mt_chain.proofs.SearchLaws.{rest_rising, head_below}
 use Rattle.mt_open.proofs.Deciding.{Either}

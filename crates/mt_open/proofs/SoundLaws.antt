@@ -5,19 +5,18 @@ use Rattle.mt_model.specs.declared.key.Key.{Key}
 use Rattle.mt_model.specs.declared.tag.Tag.{Tag}
 use Rattle.mt_chain.specs.declared.row.Stored.{Stored}
 use Rattle.mt_chain.specs.Rows.{row_at, key_at}
-use Rattle.mt_chain.specs.StoreCall.{Contents}
 use Rattle.mt_meta.specs.declared.mark.Mark.{Mark}
 use Rattle.mt_meta.specs.declared.mark.Mark.TheVariants.{Live, Copy, Tomb}
 use Rattle.mt_meta.specs.Markers.{marker_key}
 use Rattle.mt_meta.specs.Marks.{mark_of}
-use Rattle.mt_meta.specs.Logical.{Pair, OldState, NoOld, AtUseOld, AtPreferOld, AtPreferNew, BadOld, NewState, NoNew, AtFilling, AtUseNew, BadNew, old_state, new_state, old_at, new_at, old_state_at, new_state_at}
+use Rattle.mt_meta.specs.Logical.{Pair, NoOld, AtPreferOld, AtPreferNew, NewState, NoNew, AtFilling, AtUseNew, BadNew, old_state, new_state, old_at, new_at, old_state_at, new_state_at}
 use Rattle.mt_meta.specs.Sound.{IsSound, HaveForms, AreMarked, AreTags, AreKept, IsKept, IsCopyOrNone, NoTomb}
 use Rattle.mt_meta.proofs.Rules.{old_none, new_none}
 use Rattle.mt_open.specs.declared.damage.Rule.{Rule}
 use Rattle.mt_open.specs.declared.damage.Rule.TheVariants as rule
 use Rattle.mt_open.specs.declared.damage.Side.{Side}
 use Rattle.mt_open.specs.declared.damage.Side.TheVariants.{Old, New}
-use Rattle.mt_open.specs.Damage.{Place, number_of, contents_of, row_in, marker_of, IsMarkerIn, IsRowIn, HasForm, IsShared, FailsKept, FailsOwn, FailsCopy, RowFails, FailsByRow, FailsBySeal, FailsAt}
+use Rattle.mt_open.specs.Damage.{Place, number_of, contents_of, row_in, marker_of, IsMarkerIn, IsRowIn, HasForm, FailsKept, FailsOwn, RowFails, FailsAt}
 use Rattle.mt_open.proofs.Deciding.{Either, stable, form_or_not, same_numbers as cases_numbers, same_texts as cases_texts}
 
 -- ---- a sound pair fails nowhere

@@ -1,16 +1,16 @@
 -- A tag is shared exactly where more than one row is counted.
-use Rattle.std.proofs.Common.{◌≡◌, ◌≢◌, ◌⊎◌, ℕ, ◌≤◌, Bool, true, false, Some, refl, sym, ap, ◌∙◌, inl, inr, arith}
-use Rattle.std.specs.Prelude.{nat_le, IsTrue}
-use Rattle.std.proofs.lemmas.Bool.Decides.{nat_tests, Decides-eqb}
+use Rattle.std.proofs.Common.{◌≡◌, ◌≤◌, true, Some, refl, sym, ap, ◌∙◌, inl, inr, arith}
+use Rattle.std.specs.Prelude.{nat_le}
+use Rattle.std.proofs.lemmas.Bool.Decides.{nat_tests}
 use Rattle.mt_model.specs.declared.key.Key.{Key}
 use Rattle.mt_model.specs.declared.tag.Tag.{Tag}
 use Rattle.mt_chain.specs.declared.row.Stored.{Stored}
 use Rattle.mt_chain.specs.Rows.{are_rising}
 use Rattle.mt_meta.specs.Logical.{Pair}
 use Rattle.mt_open.specs.declared.damage.Side.{Side}
-use Rattle.mt_open.specs.Damage.{number_of, contents_of, row_in, IsShared, FailsNumber, FailsOwn}
+use Rattle.mt_open.specs.Damage.{number_of, contents_of, row_in, FailsNumber, FailsOwn}
 use Rattle.mt_open.specs.Repeats.{how_many}
-use Rattle.mt_open.proofs.Deciding.{Either, stable, same_numbers}
+use Rattle.mt_open.proofs.Deciding.{stable, same_numbers}
 use Rattle.mt_open.proofs.RepeatLaws.{another, counted_twice}
 
 same_tag : (a b : Tag) → a.store ≡ b.store → a.n ≡ b.n → a ≡ b

@@ -2,3 +2,4 @@ pub mod Damage
 pub mod Held
 pub mod Holdings
 pub mod Repeats
+pub mod Table

@@ -9,6 +9,7 @@ mod holding;
 mod holdings;
 mod laws;
 mod phases;
+mod table;
 mod tags;
 #[cfg(test)]
 mod tests;
@@ -18,3 +19,4 @@ pub use first::first_damage;
 pub use holding::Holding;
 pub use holdings::Holdings;
 pub use laws::sound_fails_nowhere;
+pub use table::entity_at;

@@ -1,4 +1,4 @@
-use Rattle.std.proofs.Common.{◌≡◌, ◌+◌, ◌<◌, length, None, subst, sym, ap, arith}
+use Rattle.std.proofs.Common.{◌≡◌, ◌+◌, length, subst, sym, ap, arith}
 use Rattle.mt_open.specs.Damage.{IsFirstBy}
 use Rattle.mt_open.specs.Holdings.{pair_of}
 use Rattle.mt_open.proofs.FirstLaws.{CleanBelow, clean_more, clean_all, damage_by}

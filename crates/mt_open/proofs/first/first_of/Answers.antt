@@ -1,4 +1,4 @@
-use Rattle.std.proofs.Common.{◌≡◌, Bool, true, false, Some, None, Option, Bor, subst, sym, ◌∙◌}
+use Rattle.std.proofs.Common.{Option, Bor, subst, sym, ◌∙◌}
 use Rattle.std.specs.Option.{option_copied}
 use Rattle.mt_model.specs.declared.key.Key.{Key}
 use Rattle.mt_open.specs.declared.damage.Side.TheVariants.{Old, New}

@@ -1,4 +1,4 @@
-use Rattle.std.proofs.Common.{◌≡◌, ◌≢◌}
+use Rattle.std.proofs.Common.{◌≢◌}
 use Rattle.mt_meta.specs.Markers.{marker_key}
 use Rattle.mt_open.proofs.FormLaws.{ok_for}
 use Rattle.mt_open.proofs.forms.has_form.Goals as goal

@@ -1,4 +1,4 @@
-use Rattle.std.proofs.Common.{◌≡◌, Some, None, sym, ◌∙◌, refl}
+use Rattle.std.proofs.Common.{◌≡◌, Some, None, sym, ◌∙◌}
 use Rattle.mt_meta.specs.Marks.{mark_of}
 use Rattle.mt_open.proofs.Deciding.{no_entry, has_tag, entry_by_mark}
 use Rattle.mt_open.proofs.forms.is_entry.Goals as goal

@@ -1,4 +1,4 @@
-use Rattle.std.proofs.Common.{◌≡◌, ◌≢◌, ◌⊎◌, true, false, inl, inr, refl, sym, ◌∙◌}
+use Rattle.std.proofs.Common.{inl, inr, refl, sym, ◌∙◌}
 use Rattle.mt_meta.specs.Sound.{IsOldRow, IsEntry}
 use Rattle.mt_open.proofs.FormLaws.{ok_for, all_visible, visible_all}
 use Rattle.mt_open.proofs.forms.is_old_row.Goals as goal

@@ -1,4 +1,4 @@
-use Rattle.std.proofs.Common.{ap, sym, ◌∙◌}
+use Rattle.std.proofs.Common.{sym, ◌∙◌}
 use Rattle.mt_open.proofs.FormLaws.{ok_for, empty_row_key}
 use Rattle.mt_open.proofs.forms.is_partition_key.Goals as goal
 
