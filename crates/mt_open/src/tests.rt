@@ -2,7 +2,7 @@ ghost use Rattle.std.specs.Prelude.{IsTrue, IfOk};
 ghost use Rattle.mt_chain.specs.Rows.{are_rising};
 
 use crate::holding::place_of;
-use crate::{Damage, Holding, Holdings, first_damage};
+use crate::{Damage, Holding, Holdings, entity_at, first_damage};
 use mt_chain::Stored;
 use mt_model::{Hidden, Key, Name, Prop, Props, Tag, Text, Value};
 use std::alloc::Global;
@@ -456,5 +456,15 @@ const DAMAGED: [Case; 25] = [
 fn finds_the_first_damage(rt: HostRuntime) -> Result<(), Fail> {
     let found = check_cases(rt.alloc(), &DAMAGED)?;
     assert!(rt; found);
+    Ok(())
+}
+
+#[test]
+fn shows_a_copy_with_its_kept_tag(rt: HostRuntime) -> Result<(), Fail> {
+    let alloc = rt.alloc();
+    let stores = stores_of(alloc, SOUND[2])?;
+    let key = Key::read(alloc, "p", "r")?;
+    let tag = entity_at(alloc, &stores, &key)?.map(|entity| entity.tag);
+    assert!(rt; tag == Some(Tag { store: 0, n: 2 }));
     Ok(())
 }
