@@ -151,11 +151,11 @@ says_new UseNew e = cc
 later_read : (store : ℕ) → 0 < store → old_phase_of store (marker_props (new_kind UseNew)) ≡ Some UseOld
 later_read store up = rw (lt-ltb 0 store up) refl
 
-new_read : (phase : NewPhase) → new_phase_of (marker_props (new_kind phase)) ≡ Some phase
+pub new_read : (phase : NewPhase) → new_phase_of (marker_props (new_kind phase)) ≡ Some phase
 new_read Filling = refl
 new_read UseNew = refl
 
-old_is : (store : ℕ) (ps : List Prop) → IsOldMarker store ps → (phase : Phase) × (old_phase_of store ps ≡ Some phase)
+pub old_is : (store : ℕ) (ps : List Prop) → IsOldMarker store ps → (phase : Phase) × (old_phase_of store ps ≡ Some phase)
 old_is store ps (inl h) = (h.0, ap (old_phase_of store) h.1 ∙ old_read store h.0)
 old_is store ps (inr h) = (UseOld, ap (old_phase_of store) h.1 ∙ later_read store h.0)
 
@@ -176,7 +176,7 @@ new_reads p pk h (Some row) e =
 
 -- ---- no marker is no row
 
-old_none : (x : Option Stored) → old_state x ≡ NoOld → x ≡ None
+pub old_none : (x : Option Stored) → old_state x ≡ NoOld → x ≡ None
 old_none None e = refl
 old_none (Some row) e = absurd (some_old (old_phase_of row.tag.store row.props) e) where
   some_old : (phase : Option Phase) → old_says phase ≡ NoOld → ⊥
@@ -185,7 +185,7 @@ old_none (Some row) e = absurd (some_old (old_phase_of row.tag.store row.props) 
   some_old (Some PreferOld) e = cc
   some_old (Some PreferNew) e = cc
 
-new_none : (x : Option Stored) → new_state x ≡ NoNew → x ≡ None
+pub new_none : (x : Option Stored) → new_state x ≡ NoNew → x ≡ None
 new_none None e = refl
 new_none (Some row) e = absurd (some_new (new_phase_of row.props) e) where
   some_new : (phase : Option NewPhase) → new_says phase ≡ NoNew → ⊥

@@ -62,7 +62,8 @@ fn mark_in(kind: Option<&Text>, tag: Option<&Text>) -> Option<Mark>
     }
 }
 
-fn mark_in_props(props: &Props) -> Option<Mark>
+/// What the row of these properties is, as `mark_of` says it of a row.
+pub fn mark_of_props(props: &Props) -> Option<Mark>
     ensures { result ≡ mark_of props.now }
 {
     mark_in(props.hidden(Hidden::Kind), props.hidden(Hidden::Tag))
@@ -73,7 +74,7 @@ fn mark_in_props(props: &Props) -> Option<Mark>
 pub fn mark_of(row: &StoredRow) -> Option<Mark>
     ensures { result ≡ mark_of row.now.props }
 {
-    mark_in_props(&row.props)
+    mark_of_props(&row.props)
 }
 
 fn kept_tag(mark: Option<Mark>) -> Option<Tag>
@@ -103,8 +104,16 @@ fn seen_in(kind: Option<&Text>, kept: Option<Tag>, own: Tag) -> Option<Tag>
 pub fn seen_tag(row: &StoredRow) -> Option<Tag>
     ensures { result ≡ seen_tag row.now.props row.now.tag }
 {
-    let kept = kept_tag(mark_in_props(&row.props));
-    seen_in(row.props.hidden(Hidden::Kind), kept, row.tag)
+    seen_tag_of_props(&row.props, row.tag)
+}
+
+/// The tag that clients see of the row of these properties and of that tag, as `seen_tag` says it of a
+/// row.
+pub fn seen_tag_of_props(props: &Props, own: Tag) -> Option<Tag>
+    ensures { result ≡ seen_tag props.now own }
+{
+    let kept = kept_tag(mark_of_props(props));
+    seen_in(props.hidden(Hidden::Kind), kept, own)
 }
 
 fn stored_live(alloc: Global, props: &Props) -> Result<Props, NoMemory>

@@ -110,11 +110,15 @@ fn new_phase_in(kind: Option<&Text>, tag: Option<&Text>) -> Option<NewPhase>
 pub fn old_phase(row: &StoredRow) -> Option<Phase>
     ensures { result ≡ old_phase_of row.now.tag.store row.now.props }
 {
-    old_phase_in(
-        row.tag.store,
-        row.props.hidden(Hidden::Kind),
-        row.props.hidden(Hidden::Tag),
-    )
+    old_phase_of_props(row.tag.store, &row.props)
+}
+
+/// The phase that a marker of these properties shows in an old store of that number, as `old_phase`
+/// says it of a row.
+pub fn old_phase_of_props(store: u32, props: &Props) -> Option<Phase>
+    ensures { result ≡ old_phase_of store props.now }
+{
+    old_phase_in(store, props.hidden(Hidden::Kind), props.hidden(Hidden::Tag))
 }
 
 /// The phase that a marker of the new store shows: by its `$kind`, which is `filling` or `use-new`.
@@ -122,10 +126,14 @@ pub fn old_phase(row: &StoredRow) -> Option<Phase>
 pub fn new_phase(row: &StoredRow) -> Option<NewPhase>
     ensures { result ≡ new_phase_of row.now.props }
 {
-    new_phase_in(
-        row.props.hidden(Hidden::Kind),
-        row.props.hidden(Hidden::Tag),
-    )
+    new_phase_of_props(&row.props)
+}
+
+/// The phase that a marker of these properties shows in a new store, as `new_phase` says it of a row.
+pub fn new_phase_of_props(props: &Props) -> Option<NewPhase>
+    ensures { result ≡ new_phase_of props.now }
+{
+    new_phase_in(props.hidden(Hidden::Kind), props.hidden(Hidden::Tag))
 }
 
 /// Properties that have `$kind` alone.

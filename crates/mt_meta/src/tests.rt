@@ -149,3 +149,174 @@ fn stores_marks(rt: HostRuntime) -> Result<(), Fail> {
     assert!(rt; new_marker(alloc, NewPhase::Filling)?.as_slice().len() == 1);
     Ok(())
 }
+
+/// What a row is read as, by the texts of its `$kind` and `$tag`.
+#[derive(Clone, Copy)]
+struct Reading {
+    kind: Option<&'static str>,
+    kept: Option<&'static str>,
+    mark: Option<Mark>,
+    /// As a marker of an old store of number 0, and of one above.
+    old: (Option<Phase>, Option<Phase>),
+    new: Option<NewPhase>,
+    /// Over a plain row of old while new fills, and once new is used alone.
+    shown: (Choice, Choice),
+    /// As a row of old, with no entry in new, while new fills.
+    through: Choice,
+}
+
+const OWN: Tag = Tag { store: 1, n: 5 };
+
+const KEPT: Tag = Tag { store: 0, n: 2 };
+
+const BELOW: Tag = Tag { store: 0, n: 3 };
+
+/// A row that says nothing.
+const MALFORMED: Reading = Reading {
+    kind: None,
+    kept: None,
+    mark: None,
+    old: (None, None),
+    new: None,
+    shown: (Choice::Nothing, Choice::Nothing),
+    through: Choice::Nothing,
+};
+
+const READINGS: [Reading; 21] = [
+    Reading {
+        kind: Some("live"),
+        mark: Some(Mark::Live),
+        shown: (Choice::NewRow(OWN), Choice::NewRow(OWN)),
+        through: Choice::OldRow(OWN),
+        ..MALFORMED
+    },
+    Reading {
+        kind: Some("copy"),
+        kept: Some("W/\"0.2\""),
+        mark: Some(Mark::Copy(KEPT)),
+        shown: (Choice::OldRow(BELOW), Choice::NewRow(KEPT)),
+        through: Choice::OldRow(KEPT),
+        ..MALFORMED
+    },
+    Reading {
+        kind: Some("tomb"),
+        mark: Some(Mark::Tomb),
+        ..MALFORMED
+    },
+    Reading {
+        through: Choice::OldRow(OWN),
+        ..MALFORMED
+    },
+    Reading {
+        kind: Some("use-old"),
+        old: (Some(Phase::UseOld), Some(Phase::UseOld)),
+        ..MALFORMED
+    },
+    Reading {
+        kind: Some("prefer-old"),
+        old: (Some(Phase::PreferOld), Some(Phase::PreferOld)),
+        ..MALFORMED
+    },
+    Reading {
+        kind: Some("prefer-new"),
+        old: (Some(Phase::PreferNew), Some(Phase::PreferNew)),
+        ..MALFORMED
+    },
+    Reading {
+        kind: Some("filling"),
+        new: Some(NewPhase::Filling),
+        ..MALFORMED
+    },
+    Reading {
+        kind: Some("use-new"),
+        old: (None, Some(Phase::UseOld)),
+        new: Some(NewPhase::UseNew),
+        ..MALFORMED
+    },
+    // From here on none has a form.
+    Reading {
+        kept: Some("W/\"0.2\""),
+        through: Choice::OldRow(OWN),
+        ..MALFORMED
+    },
+    Reading {
+        kind: Some("live"),
+        kept: Some("W/\"0.2\""),
+        through: Choice::OldRow(OWN),
+        ..MALFORMED
+    },
+    Reading {
+        kind: Some("copy"),
+        ..MALFORMED
+    },
+    Reading {
+        kind: Some("copy"),
+        kept: Some(""),
+        ..MALFORMED
+    },
+    Reading {
+        kind: Some("copy"),
+        kept: Some("W/\"0.18446744073709551616\""),
+        ..MALFORMED
+    },
+    Reading {
+        kind: Some("copy"),
+        kept: Some("W/\"0.+2\""),
+        ..MALFORMED
+    },
+    Reading {
+        kind: Some("tomb"),
+        kept: Some("W/\"0.2\""),
+        ..MALFORMED
+    },
+    Reading {
+        kind: Some("use-old"),
+        kept: Some("W/\"0.2\""),
+        ..MALFORMED
+    },
+    Reading {
+        kind: Some("use-new"),
+        kept: Some(""),
+        ..MALFORMED
+    },
+    Reading {
+        kind: Some("filling"),
+        kept: Some("W/\"0.2\""),
+        ..MALFORMED
+    },
+    Reading {
+        kind: Some("prefer-old "),
+        ..MALFORMED
+    },
+    Reading {
+        kind: Some(""),
+        ..MALFORMED
+    },
+];
+
+fn reads_as(alloc: Global, reading: Reading) -> Result<bool, Fail> {
+    let entry = row(alloc, OWN, reading.kind, reading.kept)?;
+    let below = row(alloc, BELOW, reading.kind, reading.kept)?;
+    let plain = row(alloc, BELOW, None, None)?;
+    let (filling, use_new) = reading.shown;
+    let (in_store_0, above) = reading.old;
+    Ok(
+        mark_of(&entry) == reading.mark
+            && new_phase(&entry) == reading.new
+            && old_phase(&below) == in_store_0
+            && old_phase(&entry) == above
+            && overlay(NewPhase::Filling, Some(&plain), Some(&entry)) == filling
+            && overlay(NewPhase::UseNew, Some(&plain), Some(&entry)) == use_new
+            && overlay(NewPhase::Filling, Some(&entry), None) == reading.through,
+    )
+}
+
+#[test]
+fn reads_every_form_and_malformed_rows(rt: HostRuntime) -> Result<(), Fail> {
+    let alloc = rt.alloc();
+    for reading in READINGS {
+        let same = reads_as(alloc, reading)?;
+        assert!(rt; same);
+    }
+    Ok(())
+}

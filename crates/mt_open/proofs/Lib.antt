@@ -1,3 +1,11 @@
 mod ReadingLists
 mod ReadingShape
 mod ReadingLaws
+pub mod Deciding
+pub mod SoundLaws
+mod FormLaws
+mod RepeatLaws
+mod TagLaws
+mod LeastLaws
+mod FirstLaws
+mod TableLaws

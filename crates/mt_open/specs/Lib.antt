@@ -1,1 +1,6 @@
 pub mod Reading
+pub mod Damage
+pub mod Held
+pub mod Holdings
+pub mod Repeats
+pub mod Table

@@ -1,6 +1,24 @@
-//! A table opened from what its two stores hold.
+//! Opening two stores as one table: what each holds, whether they are a sound pair, where they fail
+//! first, and the table that clients see.
 #![tactic(auto)]
 
+mod damage;
+mod first;
+mod forms;
+mod holding;
+mod holdings;
+mod laws;
+mod phases;
 mod reading;
+mod table;
+mod tags;
+#[cfg(test)]
+mod tests;
 
+pub use damage::{Damage, Rule, Side};
+pub use first::first_damage;
+pub use holding::Holding;
+pub use holdings::Holdings;
+pub use laws::sound_fails_nowhere;
 pub use reading::{Loaded, ReadFault, Row, read_store};
+pub use table::entity_at;

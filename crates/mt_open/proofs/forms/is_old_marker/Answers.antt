@@ -1,0 +1,5 @@
+use Rattle.mt_open.proofs.FormLaws.{old_marker_test}
+use Rattle.mt_open.proofs.forms.is_old_marker.Goals as goal
+
+pub returns-then-is_single : goal.returns-then-is_single
+returns-then-is_single c = rw (c.is_some.ensures, c.old_phase_of_props.ensures) (old_marker_test c.args.number c.args.props.now (c.is_single.ensures.0 c.if-is_single.true))
