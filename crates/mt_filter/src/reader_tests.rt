@@ -271,7 +271,7 @@ fn limits(rt: HostRuntime) -> Result<(), Fail> {
     ] {
         let text = joined(rt.alloc(), pieces)?;
         let got = outcome(rt.alloc(), text.as_str())?;
-        assert!(rt; got.as_str() == want, "{want}: {got}");
+        assert!(rt; got.as_str() == want, "{text}: {got}");
     }
     Ok(())
 }
