@@ -3,3 +3,4 @@ pub mod MemberLaws
 pub mod WrittenLaws
 pub mod DraftLaws
 pub mod TagLaws
+pub mod RisingLaws

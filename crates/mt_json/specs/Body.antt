@@ -10,6 +10,7 @@ use Rattle.serde_json.specs.Read.{read}
 use Rattle.mt_model.specs.declared.key.KeyPart.{KeyPart}
 use Rattle.mt_model.specs.declared.key.KeyPart.TheVariants.{Partition, Row}
 use Rattle.mt_model.specs.declared.value.Prop.{Prop}
+use Rattle.mt_model.specs.declared.props.PropsFault.TheVariants.{DuplicateName}
 use Rattle.mt_model.specs.Name.{is_plain_name}
 use Rattle.mt_model.specs.Props.{IsProps, props_fault}
 use Rattle.mt_json.specs.declared.kind.Kind.{Kind}
@@ -120,6 +121,11 @@ abbrev pub GivesBody : KeyUse → Data → Result Body JsonFault → Type 0
 GivesBody keys d r =
     MatchOption (as_object d) (r ≡ Err NotObject)
     (λ ms. MatchOption (missing_key keys d) (MembersGive keys d ms r) (λ part. r ≡ Err (MissingKey part)))
+
+-- the fault of a repeated name
+abbrev pub is_repeat : JsonFault → Bool
+is_repeat (Props (DuplicateName at)) = true
+is_repeat _ = false
 
 -- what the bytes give
 abbrev pub ReadsAs : KeyUse → List ℕ → Result Body JsonFault → Type 0

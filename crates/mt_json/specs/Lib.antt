@@ -1,5 +1,4 @@
 pub mod Kind
-pub mod Guid
 pub mod Value
 pub mod Body
 pub mod Written

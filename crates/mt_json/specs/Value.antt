@@ -8,12 +8,12 @@ use Rattle.base64.specs.Engines.{standard}
 use Rattle.base64.specs.GeneralPurpose.{decode_of}
 use Rattle.serde_json.specs.Data.{Data}
 use Rattle.serde_json.specs.Find.{as_bool, as_str, as_number, as_i64}
+use Rattle.uuid.specs.Text.{parsed_hyphenated}
 use Rattle.mt_model.specs.declared.value.Value.{Value}
 use Rattle.mt_model.specs.declared.value.Value.TheVariants as value
 use Rattle.mt_time.specs.Moment.{HasTicks}
 use Rattle.mt_json.specs.declared.kind.Kind.{Kind}
 use Rattle.mt_json.specs.declared.kind.Kind.TheVariants.{Untyped, String, Boolean, Int32, Int64, Guid, DateTime, Binary, Double, Unknown}
-use Rattle.mt_json.specs.Guid.{guid_of}
 
 -- a whole number in Int32
 abbrev pub int32_in : ℤ → Option ℤ
@@ -57,7 +57,7 @@ IsValue String d v = option_map value.Str (as_str d) ≡ Some v
 IsValue Boolean d v = option_map value.Bool (as_bool d) ≡ Some v
 IsValue Int32 d v = option_map value.Int32 (int32_of d) ≡ Some v
 IsValue Int64 d v = (z : ℤ) × IsInt64 d z × (v ≡ value.Int64 z)
-IsValue Guid d v = option_map value.Guid (option_and_then guid_of (as_str d)) ≡ Some v
+IsValue Guid d v = option_map value.Guid (option_and_then parsed_hyphenated (as_str d)) ≡ Some v
 IsValue DateTime d v = (ticks : ℤ) × IsMoment d ticks × (v ≡ value.Moment ticks)
 IsValue Binary d v = option_map value.Binary (option_and_then binary_of (as_str d)) ≡ Some v
 IsValue Double d v = ⊥

@@ -4,6 +4,7 @@ use Rattle.std.specs.List.{list_any}
 use Rattle.std.specs.Fmt.{signed_decimal}
 use Rattle.base64.specs.Engines.{standard}
 use Rattle.base64.specs.GeneralPurpose.{encode_of}
+use Rattle.uuid.specs.Text.{hyphenated_text, lower}
 use Rattle.serde_json.specs.Data.{Data, boolean, number, string, object, Members, no_members, put}
 use Rattle.serde_json.specs.Find.{of_integer}
 use Rattle.serde_json.specs.Written.{compact_text}
@@ -17,7 +18,6 @@ use Rattle.mt_model.specs.Tag.{tag_text}
 use Rattle.mt_time.specs.Moment.{HasTicksInFull}
 use Rattle.mt_json.specs.declared.write.Level.{Level}
 use Rattle.mt_json.specs.declared.write.Level.TheVariants as level
-use Rattle.mt_json.specs.Guid.{guid_text}
 use Rattle.mt_json.specs.Kind.{type_key}
 use Rattle.mt_json.specs.Body.{Reads}
 
@@ -38,7 +38,7 @@ Shows (Boolean b) d = d ≡ boolean b
 Shows (Int32 z) d = d ≡ number (of_integer z)
 Shows (Binary bytes) d = d ≡ string (encode_of standard bytes)
 Shows (Int64 z) d = d ≡ string (signed_decimal z)
-Shows (Guid bytes) d = d ≡ string (guid_text bytes)
+Shows (Guid bytes) d = d ≡ string (hyphenated_text lower bytes)
 Shows (Moment ticks) d = (text : List ℕ) × (d ≡ string text) × HasTicksInFull text ticks
 
 -- no names were chosen, or the name is among them

@@ -1,8 +1,8 @@
 //! What one member of a body's object gives.
-ghost use Rattle.std.specs.Prelude.{◌≡◌, ◌⊎◌, Err};
+ghost use Rattle.std.specs.Prelude.{◌≡◌, ◌⊎◌, false, Err, IfErr};
 ghost use Rattle.serde_json.specs.View.{view};
 ghost use Rattle.mt_json.specs.Kind.{kind_in};
-ghost use Rattle.mt_json.specs.Body.{is_key, is_ignored, gives_nothing, early_fault, Gives, IsTypedAs};
+ghost use Rattle.mt_json.specs.Body.{is_key, is_ignored, gives_nothing, early_fault, Gives, IsTypedAs, is_repeat};
 ghost use Rattle.mt_json.specs.declared.read.JsonFault.TheVariants as fault;
 
 use crate::kind::{Kind, is_double, kind_in};
@@ -34,7 +34,8 @@ fn gives_nothing(keys: KeyUse, name: &str, value: &Json) -> bool
 
 /// The property, or the fault of its name or its value.
 fn read_property(alloc: Global, kind: Kind, name: &str, value: &Json) -> Result<Prop, JsonFault>
-    ensures { IsTypedAs kind name.now (view value.now) result ⊎ (result ≡ Err fault.NoMemory) }
+    ensures typed { IsTypedAs kind name.now (view value.now) result ⊎ (result ≡ Err fault.NoMemory) }
+    ensures distinct { IfErr result (λ f. is_repeat f ≡ false) }
 {
     let found = match Name::read(alloc, name) {
         Ok(found) => found,
@@ -61,8 +62,9 @@ pub(crate) fn read_member(
     name: &str,
     value: &Json,
 ) -> Result<Option<Prop>, JsonFault>
-    ensures { Gives keys (kind_in (view object.now) name.now) name.now (view value.now) result
+    ensures gives { Gives keys (kind_in (view object.now) name.now) name.now (view value.now) result
         ⊎ (result ≡ Err fault.NoMemory) }
+    ensures distinct { IfErr result (λ f. is_repeat f ≡ false) }
 {
     if gives_nothing(keys, name, value) {
         return Ok(None);

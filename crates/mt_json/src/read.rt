@@ -1,7 +1,8 @@
 //! From the bytes of a body to keys and properties.
-ghost use Rattle.std.specs.Prelude.{◌≡◌, ◌⊎◌, Ok, Err, IfOk, IfErr, OnOk, ◌++◌, ◌∷◌, []};
+ghost use Rattle.std.specs.Prelude.{◌≡◌, ◌⊎◌, false, Ok, Err, IfOk, IfErr, OnOk, ◌++◌, ◌∷◌, []};
 ghost use Rattle.serde_json.specs.View.{view, members_view};
-ghost use Rattle.mt_json.specs.Body.{Reads, HasNoReading, key_name, key_text, missing_part, missing_key, AllGive, Builds, GivesBody, ReadsAs};
+ghost use Rattle.mt_json.specs.Body.{Reads, HasNoReading, key_name, key_text, missing_part, missing_key, AllGive, Builds, GivesBody, ReadsAs, is_repeat};
+ghost use Rattle.mt_model.specs.Props.{RisingNames};
 ghost use Rattle.mt_json.specs.declared.read.JsonFault.TheVariants as fault;
 
 use crate::member::read_member;
@@ -147,7 +148,9 @@ fn read_members(
     members: &BTreeMap<String, Json>,
 ) -> Result<Vec<Prop>, JsonFault>
     ensures ok { IfOk result (λ v. AllGive keys (view object.now) [] (members_view members.now.entries) (Ok v.items)) }
+    ensures rising { IfOk result (λ v. RisingNames v.items) }
     ensures err { IfErr result (λ f. AllGive keys (view object.now) [] (members_view members.now.entries) (Err f) ⊎ (f ≡ fault.NoMemory)) }
+    ensures distinct { IfErr result (λ f. is_repeat f ≡ false) }
 {
     let mut props = Vec::new(alloc);
     for (name, value) in members.iter() {
@@ -176,7 +179,9 @@ fn build_body(
     object: &Json,
     props: Vec<Prop>,
 ) -> Result<Body, JsonFault>
-    ensures { Builds keys (view object.now) props.items result ⊎ (result ≡ Err fault.NoMemory) }
+    requires { RisingNames props.items }
+    ensures built { Builds keys (view object.now) props.items result ⊎ (result ≡ Err fault.NoMemory) }
+    ensures distinct { IfErr result (λ f. is_repeat f ≡ false) }
 {
     let props = match Props::build(alloc, props) {
         Ok(props) => props,
@@ -189,7 +194,8 @@ fn build_body(
 }
 
 fn read_object(alloc: Global, object: &Json, keys: KeyUse) -> Result<Body, JsonFault>
-    ensures { GivesBody keys (view object.now) result ⊎ (result ≡ Err fault.NoMemory) }
+    ensures given { GivesBody keys (view object.now) result ⊎ (result ≡ Err fault.NoMemory) }
+    ensures distinct { IfErr result (λ f. is_repeat f ≡ false) }
 {
     let Some(members) = object.as_object() else {
         return Err(JsonFault::NotObject);
@@ -213,7 +219,9 @@ fn read_object(alloc: Global, object: &Json, keys: KeyUse) -> Result<Body, JsonF
 /// ignored. Their characters are not looked at. The faults come in the order of `JsonFault`, and want
 /// of memory may take the place of any answer.
 pub fn read_entity(alloc: Global, bytes: &[u8], keys: KeyUse) -> Result<Body, JsonFault>
-    ensures { ReadsAs keys bytes.now result ⊎ (result ≡ Err fault.NoMemory) }
+    ensures read { ReadsAs keys bytes.now result ⊎ (result ≡ Err fault.NoMemory) }
+    // the names of an object's members are distinct
+    ensures distinct { IfErr result (λ f. is_repeat f ≡ false) }
 {
     let object = parse(alloc, bytes)?;
     read_object(alloc, &object, keys)

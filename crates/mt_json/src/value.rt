@@ -110,7 +110,7 @@ fn guid_value(value: &Json) -> Option<Value>
     let Some(text) = value.as_str() else {
         return None;
     };
-    match guid_of(text.as_bytes()) {
+    match guid_of(text) {
         Some(bytes) => Some(Value::Guid(bytes)),
         None => None,
     }
