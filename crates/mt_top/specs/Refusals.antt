@@ -15,9 +15,9 @@ key_refusal (key.KeyTooLong part) = Some KeyTooLong
 key_refusal (key.KeyChar part at) = Some KeyCharacter
 key_refusal key.NoMemory = None
 
--- the refusal of a fault of properties; a repeated name comes from no body, since one value of a repeated name is read
+-- the refusal of a fault of properties; want of memory is none, nor is a repeated name, of which no body has a fault
 abbrev pub props_refusal : PropsFault → Option Refusal
-props_refusal (props.DuplicateName at) = Some BadName
+props_refusal (props.DuplicateName at) = None
 props_refusal props.TooManyProperties = Some TooManyProperties
 props_refusal (props.ValueTooLarge at) = Some PropertyTooLarge
 props_refusal props.EntityTooLarge = Some EntityTooLarge

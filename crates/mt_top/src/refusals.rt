@@ -1,6 +1,8 @@
 //! Why an insert is refused, and the replies that say so: responses of HTTP/1.1 (RFC 9112) with an
 //! error object of OData's JSON format.
-ghost use Rattle.std.specs.Prelude.{◌≡◌};
+ghost use Rattle.std.specs.Prelude.{◌≡◌, false};
+ghost use Rattle.mt_json.specs.declared.read.JsonFault.TheVariants as json;
+ghost use Rattle.mt_json.specs.Body.{is_repeat};
 ghost use Rattle.mt_top.specs.Refusals.{key_refusal, props_refusal, body_refusal, refused_text};
 
 use mt_json::JsonFault;
@@ -44,10 +46,11 @@ pub fn key_refusal(fault: KeyFault) -> Option<Refusal>
 }
 
 fn props_refusal(fault: PropsFault) -> Option<Refusal>
+    requires { is_repeat (json.Props fault) ≡ false }
     ensures { result ≡ props_refusal fault }
 {
     match fault {
-        PropsFault::DuplicateName { .. } => Some(Refusal::BadName),
+        PropsFault::DuplicateName { .. } => unreachable!(),
         PropsFault::TooManyProperties => Some(Refusal::TooManyProperties),
         PropsFault::ValueTooLarge { .. } => Some(Refusal::PropertyTooLarge),
         PropsFault::EntityTooLarge => Some(Refusal::EntityTooLarge),
@@ -55,8 +58,9 @@ fn props_refusal(fault: PropsFault) -> Option<Refusal>
     }
 }
 
-/// The refusal of a body's fault; `None` of want of memory.
+/// The refusal of a body's fault, which is no repeated name; `None` of want of memory.
 pub fn body_refusal(fault: &JsonFault) -> Option<Refusal>
+    requires { is_repeat fault.now ≡ false }
     ensures { result ≡ body_refusal fault.now }
 {
     match fault {

@@ -141,7 +141,8 @@ fn take_turn<K: Keeper, S: Source, T: Sink>(
 }
 
 /// Serves a connection of plain inserts from the old store, to the end of its input, to the first
-/// request that is no plain insert, or to the first fault.
+/// request that is no plain insert, or to the first fault. An insert whose body is refused changes
+/// nothing, and the connection goes on.
 ///
 /// At most 2^64 - 1 requests are answered; the end of this count is told as want of memory.
 pub fn session<K: Keeper, S: Source, T: Sink>(
