@@ -55,12 +55,14 @@ written_of (e ∷ es) = e.reply ++ written_of es
 abbrev pub IsCreatedReply : NewEntity → Tag → List ℕ → Type 0
 IsCreatedReply v tag reply = (text : List ℕ) × IsWritten (record { key = v.key; props = v.props; tag = tag }) Minimal None text × (reply ≡ created_reply tag text)
 
--- the bytes are the reply of an answer
+-- the bytes are the reply of an answer to what is asked for: a refusal is answered as it is, and an entity by its row
 abbrev pub IsReplyTo : Asked → Answer → List ℕ → Type 0
 IsReplyTo (asked.Entity v) (Created tag) reply = IsCreatedReply v tag reply
-IsReplyTo (asked.Refused r) (Created tag) reply = ⊥
-IsReplyTo asks Exists reply = reply ≡ exists_reply
-IsReplyTo asks (Refused r) reply = reply ≡ refused_reply r
+IsReplyTo (asked.Entity v) Exists reply = reply ≡ exists_reply
+IsReplyTo (asked.Entity v) (Refused r) reply = ⊥
+IsReplyTo (asked.Refused q) (Created tag) reply = ⊥
+IsReplyTo (asked.Refused q) Exists reply = ⊥
+IsReplyTo (asked.Refused q) (Refused r) reply = (r ≡ q) × (reply ≡ refused_reply r)
 
 -- the request is a plain insert, its body asks for this, and the reply is that of its answer
 pub record IsExchange (e : Exchange) : Type 0 where

@@ -16,6 +16,8 @@ const EXISTS: &str =
 const UNSUPPORTED: &str =
     "HTTP/1.1 501 Not Implemented\r\nContent-Type: application/json\r\nContent-Length: 108\r\nConnection: close\r\n\r\n{\"odata.error\":{\"code\":\"NotImplemented\",\"message\":{\"lang\":\"en-US\",\"value\":\"The request is not supported.\"}}}";
 
+const CUT_OFF: &str = "POST /Orders HTTP/1.1\r\nContent-Length: 3\r\n\r\n{}";
+
 const USAGE: &str = "usage: mtable session|drill|serve [options]\n";
 
 /// What fails in a run, and how its input is cut.
@@ -275,6 +277,7 @@ fn statuses(rt: HostRuntime) -> Result<(), Fail> {
         (PLAIN, INSERT, 0, CREATED),
         (PLAIN, get, 7, UNSUPPORTED),
         (PLAIN, then_get.as_str(), 7, created_then.as_str()),
+        (PLAIN, CUT_OFF, 7, UNSUPPORTED),
         (
             Plan {
                 word: "--help",

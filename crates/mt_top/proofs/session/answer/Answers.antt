@@ -10,4 +10,4 @@ returns-in-Refused g c =
     let k = g.K.Keeper.state c.args.old.now in
     let r = c.in-Refused.refusal in
     rw c.in-Refused.is (answered k k (g.T.Sink.output c.args.sink.now) (g.T.Sink.output c.reply.new.sink) (Refusing r) (Refused r) c.as_bytes.result.now c.reply.result refl (omega arith) (refl, refl)
-    (c.as_bytes.ensures.value ∙ c.refused.ensures ∙ refused_is r) c.reply.ensures)
+    (refl, c.as_bytes.ensures.value ∙ c.refused.ensures ∙ refused_is r) c.reply.ensures)
