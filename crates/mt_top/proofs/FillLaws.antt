@@ -9,12 +9,11 @@ use Rattle.mt_top.specs.declared.reader.ReadFault.{ReadFault}
 use Rattle.mt_top.specs.declared.reader.ReadFault.TheVariants.{Failed, NoMemory}
 use Rattle.mt_top.specs.Inserts.{HasNoInsert, print_insert}
 use Rattle.mt_top.specs.HeadEnds.{head_end, beyond, IsScanned}
-use Rattle.mt_top.specs.Members.{HasNoEntity}
 use Rattle.mt_top.specs.Peels.{HasHead, HasNoHead}
 use Rattle.mt_top.specs.Reading.{IsUnsupported, ahead, Later, Broke, Took, ReadAs, ReadsRequest}
 use Rattle.mt_top.specs.Filling.{Filled, FilledAs, Fills, Reached, EndsAt, IsOpened, FellShort, TakesAs, ReadsHead, Waits}
 use Rattle.mt_top.proofs.EndLaws.{scanned_grows, scanned_is, scanned_all}
-use Rattle.mt_top.proofs.InsertLaws.{no_end, late_end, wrong_head, end_grows, end_long, opened_grows, short_body, wrong_body, within_grows, insert_made, opening_short, opening_small}
+use Rattle.mt_top.proofs.InsertLaws.{no_end, late_end, wrong_head, end_grows, end_long, opened_grows, short_body, insert_made, opening_short, opening_small}
 
 before_before : (a b : List ℕ) (known : Option (List ℕ)) → before_known a (before_known b known) ≡ before_known (a ++ b) known
 before_before a b None = refl
@@ -183,30 +182,20 @@ opened_there : (kept : List ℕ) (s : Input) (kept' : List ℕ) (t : Input) (hea
 opened_there kept s kept' t head n r o = subst (λ (v : List ℕ). IsOpened v head n) (sym r.grew) (opened_grows kept r.more head n o)
 
 -- the body is whole
-pub taken : (kept : List ℕ) (s : Input) (kept' : List ℕ) (t : Input) (head n : ℕ) (r : Result Incoming ReadFault) (kept'' : List ℕ) → Reached kept s kept' t → IsOpened kept head n → head + n ≤ length kept' → TakesAs kept' head n r kept'' → ReadAs (ahead kept s) s r (ahead kept'' t) t
-taken kept s kept' t head n (Ok (incoming.Insert v)) kept'' r o there takes =
-    let made = insert_made kept' head n v (opened_there kept s kept' t head n r o) there takes.0 in
+taken : (kept : List ℕ) (s : Input) (kept' : List ℕ) (t : Input) (head n : ℕ) (body kept'' : List ℕ) → Reached kept s kept' t → IsOpened kept head n → head + n ≤ length kept' → TakesAs kept' head n (Ok body) kept'' → Took (ahead kept s) body (ahead kept'' t)
+taken kept s kept' t head n body kept'' r o there takes =
+    let made = insert_made kept' head n (opened_there kept s kept' t head n r o) there in
     record {
       insert = made.insert;
       is_insert = made.is_insert;
-      key = made.key;
-      props = made.props;
+      body_is = takes.0 ∙ made.body_is;
       read = r.same ∙ ap (λ (v : List ℕ). before_known v t.left) (made.whole ∙ ap (λ (v : List ℕ). print_insert made.insert ++ v) (sym takes.1))
           ∙ sym (before_before (print_insert made.insert) kept'' t.left);
     }
-taken kept s kept' t head n (Ok incoming.End) kept'' r o there takes = absurd takes
-taken kept s kept' t head n (Ok incoming.Other) kept'' r o there takes =
-    let P : List ℕ → Type 0 = λ (all : List ℕ). HasNoInsert all × (0 < length all) in
-    let opened = opened_there kept s kept' t head n r o in
-    subst (λ (k : Option (List ℕ)). IfSome k P) (sym r.same)
-    (if_any P kept' t.left (λ (xs : List ℕ).
-    (wrong_body (kept' ++ xs) head n (opened_grows kept' xs head n opened) (subst HasNoEntity (sym (within_grows kept' xs head n there)) takes.0), some_of kept' head opened.ends.end xs)))
-taken kept s kept' t head n (Err Failed) kept'' r o there takes = absurd takes
-taken kept s kept' t head n (Err NoMemory) kept'' r o there takes = tt
 
 -- a request that is read after other steps
 as_after : (kept : List ℕ) (s : Input) (kept' : List ℕ) (t : Input) (r : Result Incoming ReadFault) (known : Option (List ℕ)) (u : Input) → Reached kept s kept' t → ReadAs (ahead kept' t) t r known u → ReadAs (ahead kept s) s r known u
-as_after kept s kept' t (Ok (incoming.Insert v)) known u r a = subst (λ (k : Option (List ℕ)). Took k v known) (sym r.same) a
+as_after kept s kept' t (Ok (incoming.Insert body)) known u r a = subst (λ (k : Option (List ℕ)). Took k body known) (sym r.same) a
 as_after kept s kept' t (Ok incoming.End) known u r a =
     let P : List ℕ → Type 0 = λ (all : List ℕ). all ≡ [] in
     (r.same ∙ a.0, subst (λ (k : Option (List ℕ)). IfSome k P) (sym r.same) a.1)
@@ -223,8 +212,8 @@ head_failed kept s kept' t Failed kept'' u r none f = record { later = later_the
 head_failed kept s kept' t NoMemory kept'' u r none f = record { later = later_then s t u r.later f.later; read = tt }
 
 -- the ends of reading a body
-pub body_taken : (kept : List ℕ) (s : Input) (kept' : List ℕ) (t : Input) (head n : ℕ) (r : Result Incoming ReadFault) (kept'' : List ℕ) → IsOpened kept head n → Waits kept s (head + n) (Ok true) kept' t → TakesAs kept' head n r kept'' → ReadsRequest kept s r kept'' t
-body_taken kept s kept' t head n r kept'' o w takes = record { later = w.later; read = taken kept s kept' t head n r kept'' w.read.0 o w.read.1 takes }
+pub body_taken : (kept : List ℕ) (s : Input) (kept' : List ℕ) (t : Input) (head n : ℕ) (body kept'' : List ℕ) → IsOpened kept head n → Waits kept s (head + n) (Ok true) kept' t → TakesAs kept' head n (Ok body) kept'' → ReadsRequest kept s (Ok (incoming.Insert body)) kept'' t
+body_taken kept s kept' t head n body kept'' o w takes = record { later = w.later; read = taken kept s kept' t head n body kept'' w.read.0 o w.read.1 takes }
 
 pub body_short : (kept : List ℕ) (s : Input) (kept' : List ℕ) (t : Input) (head n : ℕ) → IsOpened kept head n → Waits kept s (head + n) (Ok false) kept' t → ReadsRequest kept s (Ok incoming.Other) kept' t
 body_short kept s kept' t head n o w = record { later = w.later; read = other_short kept s head n o w.read }

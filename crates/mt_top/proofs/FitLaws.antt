@@ -14,36 +14,40 @@ use Rattle.mt_chain.specs.Puts.{is_same_tag, next_tag}
 use Rattle.mt_chain.specs.StoreCall.{Contents}
 use Rattle.mt_chain.proofs.KeyLaws.{is_tied, text_false, text_true, text_same}
 use Rattle.mt_chain.proofs.RowLaws.{row_at-with_row}
+use Rattle.mt_top.specs.declared.asks.Asked.TheVariants.{Entity, Refused as Refusing}
+use Rattle.mt_top.specs.declared.asks.NewEntity.{NewEntity}
+use Rattle.mt_top.specs.declared.refusals.Refusal.{Refusal}
 use Rattle.mt_top.specs.Inserts.{Insert}
 use Rattle.mt_top.specs.Storing.{marker, use_old, stored, Born, Added, WasThere}
-use Rattle.mt_top.specs.Session.{Created, Exists, Exchange, Table, empty_table, after_answer, table_after, IsAnswer, AreAnswered, tag_before, tags_given, is_created, is_born, IsMark, IsFresh, Fits}
+use Rattle.mt_top.specs.Session.{Created, Exists, Refused, Exchange, Table, empty_table, after_answer, table_after, IsAnswer, AreAnswered, tag_before, tags_given, is_written_in, is_born, IsMark, IsFresh, Fits}
 
 -- ---- one more at the end of a list
 
 abbrev pub after_table : Table → Exchange → Table
-after_table table e = after_answer table e.insert e.answer
+after_table table e = after_answer table e.asks e.answer
 
 table_more : (table : Table) (es : List Exchange) (e : Exchange) (k : Key) → table_after table (es ++ e ∷ []) k ≡ after_table (table_after table es) e k
 table_more table [] e k = refl
 table_more table (f ∷ es) e k = table_more (after_table table f) es e k
 
-answers_more : (store : ℕ) (table : Table) (es : List Exchange) (e : Exchange) → AreAnswered store table es → IsAnswer store (table_after table es) e.insert e.answer → AreAnswered store table (es ++ e ∷ [])
+answers_more : (store : ℕ) (table : Table) (es : List Exchange) (e : Exchange) → AreAnswered store table es → IsAnswer store (table_after table es) e.asks e.answer → AreAnswered store table (es ++ e ∷ [])
 answers_more store table [] e all a = (a, tt)
 answers_more store table (f ∷ es) e all a = (all.0, answers_more store (after_table table f) es e all.1 a)
 
-given_more : (es : List Exchange) (i : Insert) (tag : Tag) → tags_given (es ++ record { insert = i; answer = Created tag } ∷ []) ≡ tags_given es ++ tag ∷ []
-given_more [] i tag = refl
-given_more (e ∷ es) i tag = elim e.answer as (λ a. tag_before a (tags_given (es ++ record { insert = i; answer = Created tag } ∷ [])) ≡ tag_before a (tags_given es) ++ tag ∷ []) [
-  | Created t ↦ ap (λ ts. t ∷ ts) (given_more es i tag)
-  | Exists ↦ given_more es i tag
+given_more : (es : List Exchange) (e : Exchange) → tags_given (es ++ e ∷ []) ≡ tags_given es ++ tag_before e.answer []
+given_more [] e = refl
+given_more (f ∷ es) e = elim f.answer as (λ a. tag_before a (tags_given (es ++ e ∷ [])) ≡ tag_before a (tags_given es) ++ tag_before e.answer []) [
+  | Created t ↦ ap (λ ts. t ∷ ts) (given_more es e)
+  | Exists ↦ given_more es e
+  | Refused r ↦ given_more es e
 ]
 
-given_same : (es : List Exchange) (i : Insert) → tags_given (es ++ record { insert = i; answer = Exists } ∷ []) ≡ tags_given es
-given_same [] i = refl
-given_same (e ∷ es) i = ap (tag_before e.answer) (given_same es i)
+given_same : (es : List Exchange) (e : Exchange) → tag_before e.answer [] ≡ [] → tags_given (es ++ e ∷ []) ≡ tags_given es
+given_same [] e none = none
+given_same (f ∷ es) e none = ap (tag_before f.answer) (given_same es e none)
 
-born_more : (pk : List ℕ) (es : List Exchange) (e : Exchange) → is_born pk (es ++ e ∷ []) ≡ (is_born pk es || ((is_created e.answer && bytes_eq pk e.insert.key.pk) || false))
-born_more pk es e = list_any-append (λ (x : Exchange). is_created x.answer && bytes_eq pk x.insert.key.pk) es (e ∷ [])
+born_more : (pk : List ℕ) (es : List Exchange) (e : Exchange) → is_born pk (es ++ e ∷ []) ≡ (is_born pk es || (is_written_in pk e.asks e.answer || false))
+born_more pk es e = list_any-append (λ (x : Exchange). is_written_in pk x.asks x.answer) es (e ∷ [])
 
 -- ---- tags
 
@@ -86,36 +90,40 @@ text_clash a b e f =
     let h : true ≡ false = sym t ∙ f in
     cc
 
-module _ (store : ℕ) (es : List Exchange) (i : Insert) (tag : Tag) (b c : Contents) (fit : Fits store es b) (plain : i.key.rk ≢ marker) where
+-- an entity's row was written
+abbrev pub created : Insert → NewEntity → Tag → List ℕ → Exchange
+created i v tag y = record { insert = i; asks = Entity v; answer = Created tag; reply = y }
+
+module _ (store : ℕ) (es : List Exchange) (i : Insert) (v : NewEntity) (tag : Tag) (y : List ℕ) (b c : Contents) (fit : Fits store es b) (plain : v.key.rk ≢ marker) where
   -- the table and the rows at a client's key
   rows_here : (q : Key) (rows : Rows) → row_at rows q.pk q.rk ≡ table_after empty_table es q
-      → row_at (with_row rows i.key.pk i.key.rk (stored i.props tag)) q.pk q.rk ≡ table_after empty_table (es ++ record { insert = i; answer = Created tag } ∷ []) q
+      → row_at (with_row rows v.key.pk v.key.rk (stored v.props tag)) q.pk q.rk ≡ table_after empty_table (es ++ created i v tag y ∷ []) q
   rows_here q rows e =
-      row_at-with_row rows i.key.pk i.key.rk (stored i.props tag) q.pk q.rk
-      ∙ ap (λ t. cond t (Some (stored i.props tag)) (row_at rows q.pk q.rk)) (sym (is_tied i.key q))
-      ∙ ap (cond (eq_by_cmp key_cmp i.key q) (Some (stored i.props tag))) e
-      ∙ sym (table_more empty_table es (record { insert = i; answer = Created tag }) q)
+      row_at-with_row rows v.key.pk v.key.rk (stored v.props tag) q.pk q.rk
+      ∙ ap (λ t. cond t (Some (stored v.props tag)) (row_at rows q.pk q.rk)) (sym (is_tied v.key q))
+      ∙ ap (cond (eq_by_cmp key_cmp v.key q) (Some (stored v.props tag))) e
+      ∙ sym (table_more empty_table es (created i v tag y) q)
 
   -- the new row is at no marker
-  marker_stays : (pk : List ℕ) (rows : Rows) → row_at (with_row rows i.key.pk i.key.rk (stored i.props tag)) pk marker ≡ row_at rows pk marker
+  marker_stays : (pk : List ℕ) (rows : Rows) → row_at (with_row rows v.key.pk v.key.rk (stored v.props tag)) pk marker ≡ row_at rows pk marker
   marker_stays pk rows =
-      row_at-with_row rows i.key.pk i.key.rk (stored i.props tag) pk marker
-      ∙ ap (λ t. cond (bytes_eq i.key.pk pk && t) (Some (stored i.props tag)) (row_at rows pk marker)) (text_false i.key.rk marker plain)
-      ∙ elim (bytes_eq i.key.pk pk) as (λ t. cond (t && false) (Some (stored i.props tag)) (row_at rows pk marker) ≡ row_at rows pk marker) [ true ↦ refl | false ↦ refl ]
+      row_at-with_row rows v.key.pk v.key.rk (stored v.props tag) pk marker
+      ∙ ap (λ t. cond (bytes_eq v.key.pk pk && t) (Some (stored v.props tag)) (row_at rows pk marker)) (text_false v.key.rk marker plain)
+      ∙ elim (bytes_eq v.key.pk pk) as (λ t. cond (t && false) (Some (stored v.props tag)) (row_at rows pk marker) ≡ row_at rows pk marker) [ true ↦ refl | false ↦ refl ]
 
-  answered : row_at b.rows i.key.pk i.key.rk ≡ None → tag.store ≡ store → AreAnswered store empty_table (es ++ record { insert = i; answer = Created tag } ∷ [])
-  answered free same = answers_more store empty_table es (record { insert = i; answer = Created tag }) fit.answers (sym (fit.holds.rows i.key plain) ∙ free, same)
+  answered : row_at b.rows v.key.pk v.key.rk ≡ None → tag.store ≡ store → AreAnswered store empty_table (es ++ created i v tag y ∷ [])
+  answered free same = answers_more store empty_table es (created i v tag y) fit.answers (sym (fit.holds.rows v.key plain) ∙ free, same)
 
-  marks_more : (pk : List ℕ) (row : Option Stored) → IsMark (is_born pk es) row → (bytes_eq pk i.key.pk ≡ true → IsMark true row) → IsMark (is_born pk (es ++ record { insert = i; answer = Created tag } ∷ [])) row
-  marks_more pk row m f = subst (λ t. IsMark t row) (sym (born_more pk es (record { insert = i; answer = Created tag }))) (is_marked (is_born pk es) (bytes_eq pk i.key.pk) row m f)
+  marks_more : (pk : List ℕ) (row : Option Stored) → IsMark (is_born pk es) row → (bytes_eq pk v.key.pk ≡ true → IsMark true row) → IsMark (is_born pk (es ++ created i v tag y ∷ [])) row
+  marks_more pk row m f = subst (λ t. IsMark t row) (sym (born_more pk es (created i v tag y))) (is_marked (is_born pk es) (bytes_eq pk v.key.pk) row m f)
 
-  tags_more : b.counter < tag.n → tag.n ≤ c.counter → AllByRecursion (λ (t : Tag). t.n ≤ c.counter) (tags_given (es ++ record { insert = i; answer = Created tag } ∷ []))
-  tags_more lt le = subst (AllByRecursion (λ (t : Tag). t.n ≤ c.counter)) (sym (given_more es i tag)) (more_tags b.counter c.counter (tags_given es) tag (omega arith) le fit.holds.tags)
+  tags_more : b.counter < tag.n → tag.n ≤ c.counter → AllByRecursion (λ (t : Tag). t.n ≤ c.counter) (tags_given (es ++ created i v tag y ∷ []))
+  tags_more lt le = subst (AllByRecursion (λ (t : Tag). t.n ≤ c.counter)) (sym (given_more es (created i v tag y))) (more_tags b.counter c.counter (tags_given es) tag (omega arith) le fit.holds.tags)
 
-  distinct_more : b.counter < tag.n → IsDistinct is_same_tag (tags_given (es ++ record { insert = i; answer = Created tag } ∷ []))
-  distinct_more lt = subst (IsDistinct is_same_tag) (sym (given_more es i tag)) (apart_more b.counter (tags_given es) tag fit.holds.tags lt fit.apart)
+  distinct_more : b.counter < tag.n → IsDistinct is_same_tag (tags_given (es ++ created i v tag y ∷ []))
+  distinct_more lt = subst (IsDistinct is_same_tag) (sym (given_more es (created i v tag y))) (apart_more b.counter (tags_given es) tag fit.holds.tags lt fit.apart)
 
-  pub added : Added store i.key i.props tag b c → Fits store (es ++ record { insert = i; answer = Created tag } ∷ []) c
+  pub added : Added store v.key v.props tag b c → Fits store (es ++ created i v tag y ∷ []) c
   added a =
       let n : tag.n ≡ b.counter + 1 = ap (λ (t : Tag). t.n) a.tag_is in
       let lt : b.counter < tag.n = omega arith in
@@ -127,34 +135,34 @@ module _ (store : ℕ) (es : List Exchange) (i : Insert) (tag : Tag) (b c : Cont
         holds = record {
           unsealed = a.sealed ∙ fit.holds.unsealed;
           rows = λ q ne. ap (λ rows. row_at rows q.pk q.rk) a.rows ∙ rows_here q b.rows (fit.holds.rows q ne);
-          marks = λ pk. subst (IsMark (is_born pk (es ++ record { insert = i; answer = Created tag } ∷ []))) (sym (ap (λ rows. row_at rows pk marker) a.rows ∙ marker_stays pk b.rows))
-              (marks_more pk (row_at b.rows pk marker) (fit.holds.marks pk) (λ same. mark_of_row _ a.mark (ap (λ p. row_at b.rows p marker) (text_true pk i.key.pk same) ∙ a.marked) a.kind));
+          marks = λ pk. subst (IsMark (is_born pk (es ++ created i v tag y ∷ []))) (sym (ap (λ rows. row_at rows pk marker) a.rows ∙ marker_stays pk b.rows))
+              (marks_more pk (row_at b.rows pk marker) (fit.holds.marks pk) (λ same. mark_of_row _ a.mark (ap (λ p. row_at b.rows p marker) (text_true pk v.key.pk same) ∙ a.marked) a.kind));
           tags = tags_more lt le;
         };
       }
 
-  pub born : Born store i.key i.props tag b c → Fits store (es ++ record { insert = i; answer = Created tag } ∷ []) c
+  pub born : Born store v.key v.props tag b c → Fits store (es ++ created i v tag y ∷ []) c
   born a =
       let n : tag.n ≡ b.counter + 1 + 1 = ap (λ (t : Tag). t.n) a.tag_is in
       let lt : b.counter < tag.n = omega arith in
       let count : c.counter ≡ b.counter + 2 = a.counter in
       let le : tag.n ≤ c.counter = omega arith in
       let mark : Stored = stored use_old (next_tag store b.counter) in
-      let with_mark : Rows = with_row b.rows i.key.pk marker mark in
+      let with_mark : Rows = with_row b.rows v.key.pk marker mark in
       let beside : (q : Key) → q.rk ≢ marker → row_at with_mark q.pk q.rk ≡ row_at b.rows q.pk q.rk =
-      λ q ne. row_at-with_row b.rows i.key.pk marker mark q.pk q.rk
-      ∙ ap (λ t. cond (bytes_eq i.key.pk q.pk && t) (Some mark) (row_at b.rows q.pk q.rk)) (text_false marker q.rk (λ e. ne (sym e)))
-      ∙ elim (bytes_eq i.key.pk q.pk) as (λ t. cond (t && false) (Some mark) (row_at b.rows q.pk q.rk) ≡ row_at b.rows q.pk q.rk) [ true ↦ refl | false ↦ refl ] in
-      let at_mark : (pk : List ℕ) → row_at with_mark pk marker ≡ cond (bytes_eq i.key.pk pk && true) (Some mark) (row_at b.rows pk marker) =
-      λ pk. row_at-with_row b.rows i.key.pk marker mark pk marker ∙ ap (λ t. cond (bytes_eq i.key.pk pk && t) (Some mark) (row_at b.rows pk marker)) (text_same marker) in
-      let here : (pk : List ℕ) → bytes_eq pk i.key.pk ≡ true → row_at with_mark pk marker ≡ Some mark =
-      λ pk same. at_mark pk ∙ ap (λ t. cond (t && true) (Some mark) (row_at b.rows pk marker)) (ap (bytes_eq i.key.pk) (text_true pk i.key.pk same) ∙ text_same i.key.pk) in
-      let mark_now : (pk : List ℕ) → IsMark (is_born pk (es ++ record { insert = i; answer = Created tag } ∷ [])) (row_at with_mark pk marker) =
-      λ pk. elim (bytes_eq i.key.pk pk) as (λ t. bytes_eq i.key.pk pk ≡ t → IsMark (is_born pk (es ++ record { insert = i; answer = Created tag } ∷ [])) (row_at with_mark pk marker)) [
-        | true ↦ λ e. subst (λ t. IsMark t (row_at with_mark pk marker)) (sym (born_more pk es (record { insert = i; answer = Created tag })))
-            (is_marked_here (is_born pk es) (bytes_eq pk i.key.pk) (row_at with_mark pk marker) (mark_of_row _ mark (here pk (ap (λ p. bytes_eq p i.key.pk) (sym (text_true i.key.pk pk e)) ∙ text_same i.key.pk)) refl) (ap (λ p. bytes_eq p i.key.pk) (sym (text_true i.key.pk pk e)) ∙ text_same i.key.pk))
-        | false ↦ λ e. subst (IsMark (is_born pk (es ++ record { insert = i; answer = Created tag } ∷ []))) (sym (at_mark pk ∙ ap (λ t. cond (t && true) (Some mark) (row_at b.rows pk marker)) e))
-            (marks_more pk (row_at b.rows pk marker) (fit.holds.marks pk) (λ same. absurd (text_clash pk i.key.pk same e)))
+      λ q ne. row_at-with_row b.rows v.key.pk marker mark q.pk q.rk
+      ∙ ap (λ t. cond (bytes_eq v.key.pk q.pk && t) (Some mark) (row_at b.rows q.pk q.rk)) (text_false marker q.rk (λ e. ne (sym e)))
+      ∙ elim (bytes_eq v.key.pk q.pk) as (λ t. cond (t && false) (Some mark) (row_at b.rows q.pk q.rk) ≡ row_at b.rows q.pk q.rk) [ true ↦ refl | false ↦ refl ] in
+      let at_mark : (pk : List ℕ) → row_at with_mark pk marker ≡ cond (bytes_eq v.key.pk pk && true) (Some mark) (row_at b.rows pk marker) =
+      λ pk. row_at-with_row b.rows v.key.pk marker mark pk marker ∙ ap (λ t. cond (bytes_eq v.key.pk pk && t) (Some mark) (row_at b.rows pk marker)) (text_same marker) in
+      let here : (pk : List ℕ) → bytes_eq pk v.key.pk ≡ true → row_at with_mark pk marker ≡ Some mark =
+      λ pk same. at_mark pk ∙ ap (λ t. cond (t && true) (Some mark) (row_at b.rows pk marker)) (ap (bytes_eq v.key.pk) (text_true pk v.key.pk same) ∙ text_same v.key.pk) in
+      let mark_now : (pk : List ℕ) → IsMark (is_born pk (es ++ created i v tag y ∷ [])) (row_at with_mark pk marker) =
+      λ pk. elim (bytes_eq v.key.pk pk) as (λ t. bytes_eq v.key.pk pk ≡ t → IsMark (is_born pk (es ++ created i v tag y ∷ [])) (row_at with_mark pk marker)) [
+        | true ↦ λ e. subst (λ t. IsMark t (row_at with_mark pk marker)) (sym (born_more pk es (created i v tag y)))
+            (is_marked_here (is_born pk es) (bytes_eq pk v.key.pk) (row_at with_mark pk marker) (mark_of_row _ mark (here pk (ap (λ p. bytes_eq p v.key.pk) (sym (text_true v.key.pk pk e)) ∙ text_same v.key.pk)) refl) (ap (λ p. bytes_eq p v.key.pk) (sym (text_true v.key.pk pk e)) ∙ text_same v.key.pk))
+        | false ↦ λ e. subst (IsMark (is_born pk (es ++ created i v tag y ∷ []))) (sym (at_mark pk ∙ ap (λ t. cond (t && true) (Some mark) (row_at b.rows pk marker)) e))
+            (marks_more pk (row_at b.rows pk marker) (fit.holds.marks pk) (λ same. absurd (text_clash pk v.key.pk same e)))
       ] refl in
       record {
         answers = answered a.free (ap (λ (t : Tag). t.store) a.tag_is);
@@ -162,27 +170,41 @@ module _ (store : ℕ) (es : List Exchange) (i : Insert) (tag : Tag) (b c : Cont
         holds = record {
           unsealed = a.sealed ∙ fit.holds.unsealed;
           rows = λ q ne. ap (λ rows. row_at rows q.pk q.rk) a.rows ∙ rows_here q with_mark (beside q ne ∙ fit.holds.rows q ne);
-          marks = λ pk. subst (IsMark (is_born pk (es ++ record { insert = i; answer = Created tag } ∷ []))) (sym (ap (λ rows. row_at rows pk marker) a.rows ∙ marker_stays pk with_mark)) (mark_now pk);
+          marks = λ pk. subst (IsMark (is_born pk (es ++ created i v tag y ∷ []))) (sym (ap (λ rows. row_at rows pk marker) a.rows ∙ marker_stays pk with_mark)) (mark_now pk);
           tags = tags_more lt le;
         };
       }
 
--- the row is there
-pub was_there : (store : ℕ) (es : List Exchange) (i : Insert) (b c : Contents) → Fits store es b → i.key.rk ≢ marker → WasThere i.key b c → Fits store (es ++ record { insert = i; answer = Exists } ∷ []) c
-was_there store es i b c fit plain w =
-    let e : Exchange = record { insert = i; answer = Exists } in
-    let born_same : (pk : List ℕ) → is_born pk (es ++ e ∷ []) ≡ is_born pk es = λ pk. born_more pk es e ∙ elim (is_born pk es) as (λ t. (t || (false || false)) ≡ t) [ true ↦ refl | false ↦ refl ] in
-    let fits : Fits store (es ++ e ∷ []) b = record {
-      answers = answers_more store empty_table es e fit.answers (ap is_some (sym (fit.holds.rows i.key plain)) ∙ w.there);
-      apart = subst (IsDistinct is_same_tag) (sym (given_same es i)) fit.apart;
+-- an answer that writes nothing
+unchanged : (store : ℕ) (es : List Exchange) (e : Exchange) (b : Contents) → Fits store es b → IsAnswer store (table_after empty_table es) e.asks e.answer
+    → ((table : Table) (k : Key) → after_table table e k ≡ table k) → tag_before e.answer [] ≡ [] → ((pk : List ℕ) → is_written_in pk e.asks e.answer ≡ false) → Fits store (es ++ e ∷ []) b
+unchanged store es e b fit answer table none unborn =
+    let born_same : (pk : List ℕ) → is_born pk (es ++ e ∷ []) ≡ is_born pk es =
+    λ pk. born_more pk es e ∙ ap (λ t. is_born pk es || (t || false)) (unborn pk) ∙ elim (is_born pk es) as (λ t. (t || (false || false)) ≡ t) [ true ↦ refl | false ↦ refl ] in
+    record {
+      answers = answers_more store empty_table es e fit.answers answer;
+      apart = subst (IsDistinct is_same_tag) (sym (given_same es e none)) fit.apart;
       holds = record {
         unsealed = fit.holds.unsealed;
-        rows = λ q ne. fit.holds.rows q ne ∙ sym (table_more empty_table es e q);
+        rows = λ q ne. fit.holds.rows q ne ∙ sym (table_more empty_table es e q ∙ table (table_after empty_table es) q);
         marks = λ pk. subst (λ t. IsMark t (row_at b.rows pk marker)) (sym (born_same pk)) (fit.holds.marks pk);
-        tags = subst (AllByRecursion (λ (t : Tag). t.n ≤ b.counter)) (sym (given_same es i)) fit.holds.tags;
+        tags = subst (AllByRecursion (λ (t : Tag). t.n ≤ b.counter)) (sym (given_same es e none)) fit.holds.tags;
       };
-    } in
-    subst (Fits store (es ++ e ∷ [])) (sym w.same) fits
+    }
+
+-- the row is there
+pub was_there : (store : ℕ) (es : List Exchange) (i : Insert) (v : NewEntity) (y : List ℕ) (b c : Contents) → Fits store es b → v.key.rk ≢ marker → WasThere v.key b c
+    → Fits store (es ++ record { insert = i; asks = Entity v; answer = Exists; reply = y } ∷ []) c
+was_there store es i v y b c fit plain w =
+    let e : Exchange = record { insert = i; asks = Entity v; answer = Exists; reply = y } in
+    subst (Fits store (es ++ e ∷ [])) (sym w.same)
+    (unchanged store es e b fit (ap is_some (sym (fit.holds.rows v.key plain)) ∙ w.there) (λ table k. refl) refl (λ pk. refl))
+
+-- an insert is refused
+pub was_refused : (store : ℕ) (es : List Exchange) (i : Insert) (q r : Refusal) (y : List ℕ) (b : Contents) → Fits store es b → r ≡ q
+    → Fits store (es ++ record { insert = i; asks = Refusing q; answer = Refused r; reply = y } ∷ []) b
+was_refused store es i q r y b fit same =
+    unchanged store es (record { insert = i; asks = Refusing q; answer = Refused r; reply = y }) b fit same (λ table k. refl) refl (λ pk. refl)
 
 -- a fresh store holds nothing
 pub fresh_fits : (store : ℕ) (c : Contents) → IsFresh c → Fits store [] c

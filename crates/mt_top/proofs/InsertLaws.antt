@@ -1,18 +1,15 @@
 -- When a plain insert stands at the front, by the place where the head ends and by what follows it.
-use Rattle.std.proofs.Common.{◌≡◌, ℕ, zero, suc, ◌+◌, ◌-◌, ◌<◌, ◌≤◌, ◌^◌, Bool, true, false, cond, List, [], ◌∷◌, ◌++◌, length, take, drop, Option, Some, None, refl, sym, ap, ◌∙◌, arith, append_assoc, append-nil, length-append, length-take, length-drop, subst, codes, nat_eq, inl, inr}
+use Rattle.std.proofs.Common.{◌≡◌, ℕ, ◌+◌, ◌-◌, ◌<◌, ◌≤◌, ◌^◌, Bool, true, false, cond, List, [], ◌∷◌, ◌++◌, length, take, drop, Option, Some, None, refl, sym, ap, ◌∙◌, arith, append_assoc, append-nil, length-append, length-take, length-drop, subst, codes, nat_eq, inl, inr}
 use Rattle.std.specs.Prelude.{◌⊎◌}
 use Rattle.std.proofs.lemmas.List.{take-append-le, take-append-drop, append_cancel_left, drop-drop}
 use Rattle.std.proofs.lemmas.Bool.Decides.{Decides-eqb}
 use Rattle.std.proofs.lemmas.Slice.Eq.{starts_is}
 use Rattle.std.proofs.Math.Seq.{take-append_seam, drop-append_seam}
 use Rattle.std.proofs.lemmas.Fmt.{decimal_injective}
-use Rattle.mt_top.specs.declared.entity.NewEntity.{NewEntity}
 use Rattle.mt_top.specs.Heads.{Field, Head, IsFramed, IsLength, fields_named, field_line, field_lines, line_end, print_head}
-use Rattle.mt_top.specs.Bodies.{print_object}
 use Rattle.mt_top.specs.Inserts.{Insert, IsInsert, HasNoInsert, head_of, print_insert}
 use Rattle.mt_top.specs.HeadEnds.{ends_here, beyond, head_end}
 use Rattle.mt_top.specs.Peels.{IsOpening, HasHead, HasNoHead, print_section}
-use Rattle.mt_top.specs.Members.{HasEntity, HasNoEntity}
 use Rattle.mt_top.specs.Filling.{IsOpened}
 use Rattle.mt_top.proofs.FieldLaws.{section_begins}
 use Rattle.mt_top.proofs.HeadLaws.{head_prints, line_unique, table_of}
@@ -59,17 +56,17 @@ end_grows (c ∷ cs) more n e =
 pub record Stands (all : List ℕ) (i : Insert) (rest : List ℕ) : Type 0 where
   pub end : head_end all ≡ Some (length (print_head (head_of i)))
   pub head : take (length (print_head (head_of i))) all ≡ print_head (head_of i)
-  pub after : drop (length (print_head (head_of i))) all ≡ print_object i.members ++ rest
-  pub long : length (print_head (head_of i)) + length (print_object i.members) ≤ length all
+  pub after : drop (length (print_head (head_of i))) all ≡ i.body ++ rest
+  pub long : length (print_head (head_of i)) + length i.body ≤ length all
 
 stands : (all : List ℕ) (i : Insert) (rest : List ℕ) → IsInsert i → all ≡ print_insert i ++ rest → Stands all i rest
 stands all i rest is e =
-    let split : all ≡ print_head (head_of i) ++ (print_object i.members ++ rest) = e ∙ append_assoc (print_head (head_of i)) (print_object i.members) rest in
+    let split : all ≡ print_head (head_of i) ++ (i.body ++ rest) = e ∙ append_assoc (print_head (head_of i)) i.body rest in
     record {
-      end = ap head_end split ∙ head_ends (head_of i) (print_object i.members ++ rest) is.head;
-      head = ap (take (length (print_head (head_of i)))) split ∙ take-append_seam (print_head (head_of i)) (print_object i.members ++ rest);
-      after = ap (drop (length (print_head (head_of i)))) split ∙ drop-append_seam (print_head (head_of i)) (print_object i.members ++ rest);
-      long = omega (arith, ap (length {A = ℕ}) split, length-append (print_head (head_of i)) (print_object i.members ++ rest), length-append (print_object i.members) rest);
+      end = ap head_end split ∙ head_ends (head_of i) (i.body ++ rest) is.head;
+      head = ap (take (length (print_head (head_of i)))) split ∙ take-append_seam (print_head (head_of i)) (i.body ++ rest);
+      after = ap (drop (length (print_head (head_of i)))) split ∙ drop-append_seam (print_head (head_of i)) (i.body ++ rest);
+      long = omega (arith, ap (length {A = ℕ}) split, length-append (print_head (head_of i)) (i.body ++ rest), length-append i.body rest);
     }
 
 pub no_end : (all : List ℕ) → head_end all ≡ None → HasNoInsert all
@@ -87,13 +84,13 @@ front bytes more p rest e le =
 pub late_end : (bytes : List ℕ) → head_end bytes ≡ None → 16384 ≤ length bytes → (more : List ℕ) → HasNoInsert (bytes ++ more)
 late_end bytes none long more i rest is e =
     let p = print_head (head_of i) in
-    let split : bytes ++ more ≡ p ++ (print_object i.members ++ rest) = e ∙ append_assoc p (print_object i.members) rest in
+    let split : bytes ++ more ≡ p ++ (i.body ++ rest) = e ∙ append_assoc p i.body rest in
     let short : length p ≤ 16384 = is.head.short in
-    let whole = front bytes more p (print_object i.members ++ rest) split (omega (arith, short)) in
+    let whole = front bytes more p (i.body ++ rest) split (omega (arith, short)) in
     let found : head_end bytes ≡ Some (length p) = ap head_end whole ∙ head_ends (head_of i) (drop (length p) bytes) is.head in
     cc
 
-opening_of : (i : Insert) → IsInsert i → IsOpening (head_of i) (length (print_object i.members))
+opening_of : (i : Insert) → IsInsert i → IsOpening (head_of i) (length i.body)
 opening_of i is = record { head = is.head; method = refl; table = is.table; framed = is.framed }
 
 same_place : (all : List ℕ) (n : ℕ) (i : Insert) (rest : List ℕ) → head_end all ≡ Some n → Stands all i rest → n ≡ length (print_head (head_of i))
@@ -105,7 +102,7 @@ same_place all n i rest e s =
 pub wrong_head : (all : List ℕ) (n : ℕ) → head_end all ≡ Some n → HasNoHead (take n all) → HasNoInsert all
 wrong_head all n end none i rest is e =
     let s = stands all i rest is e in
-    none (head_of i) (length (print_object i.members)) (opening_of i is) (ap (λ (k : ℕ). take k all) (same_place all n i rest end s) ∙ s.head)
+    none (head_of i) (length i.body) (opening_of i is) (ap (λ (k : ℕ). take k all) (same_place all n i rest end s) ∙ s.head)
 
 no_more : (more : List Field) → line_end ≡ print_section more → more ≡ []
 no_more [] e = refl
@@ -142,13 +139,13 @@ pub opening_short : (bytes : List ℕ) (n : ℕ) → HasHead bytes n → length 
 opening_short bytes n h = subst (λ (x : List ℕ). length x ≤ 16384) (sym h.whole) h.opening.head.short
 
 -- an insert that stands where a head was read has the announced length
-same_length : (all : List ℕ) (head n : ℕ) → IsOpened all head n → (i : Insert) (rest : List ℕ) → IsInsert i → Stands all i rest → n ≡ length (print_object i.members)
+same_length : (all : List ℕ) (head n : ℕ) → IsOpened all head n → (i : Insert) (rest : List ℕ) → IsInsert i → Stands all i rest → n ≡ length i.body
 same_length all head n o i rest is s =
     let h = o.opening in
     let printed : print_head h.head ≡ print_head (head_of i) = sym h.whole ∙ ap (λ (k : ℕ). take k all) (same_place all head i rest o.ends.end s) ∙ s.head in
-    let fields : i.fields ≡ h.head.fields = same_fields h.head (head_of i) n (length (print_object i.members)) h.opening (opening_of i is) printed in
-    let sized = subst (λ (fs : List Field). IsLength (fields_named (codes "Content-Length") fs) (length (print_object i.members))) fields is.framed.sized in
-    length_unique (fields_named (codes "Content-Length") h.head.fields) n (length (print_object i.members)) h.opening.framed.sized sized
+    let fields : i.fields ≡ h.head.fields = same_fields h.head (head_of i) n (length i.body) h.opening (opening_of i is) printed in
+    let sized = subst (λ (fs : List Field). IsLength (fields_named (codes "Content-Length") fs) (length i.body)) fields is.framed.sized in
+    length_unique (fields_named (codes "Content-Length") h.head.fields) n (length i.body) h.opening.framed.sized sized
 
 pub opened_grows : (bytes more : List ℕ) (head n : ℕ) → IsOpened bytes head n → IsOpened (bytes ++ more) head n
 opened_grows bytes more head n o = record {
@@ -164,39 +161,23 @@ short_body all head n o short i rest is e =
     let size = same_length all head n o i rest is s in
     omega (arith, s.long, place, size, short)
 
--- the body is no entity's
-pub wrong_body : (all : List ℕ) (head n : ℕ) → IsOpened all head n → HasNoEntity (take n (drop head all)) → HasNoInsert all
-wrong_body all head n o none i rest is e =
-    let s = stands all i rest is e in
-    let place = same_place all head i rest o.ends.end s in
-    let size = same_length all head n o i rest is s in
-    let body : take n (drop head all) ≡ print_object i.members =
-    ap (λ (k : ℕ). take n (drop k all)) place ∙ ap (take n) s.after ∙ ap (λ (k : ℕ). take k (print_object i.members ++ rest)) size ∙ take-append_seam (print_object i.members) rest in
-    none i.members i.key i.props is.entity body
-
--- the n bytes from a place on, of more bytes
-pub within_grows : (bytes more : List ℕ) (head n : ℕ) → head + n ≤ length bytes → take n (drop head (bytes ++ more)) ≡ take n (drop head bytes)
-within_grows bytes more zero n le = take-append-le n bytes more (omega (arith, le))
-within_grows [] more (suc head) n le = absurd (omega (arith, le))
-within_grows (b ∷ bytes) more (suc head) n le = within_grows bytes more head n (omega (arith, le))
-
 -- an insert is taken off
-pub record Insertion (kept : List ℕ) (v : NewEntity) (kept' : List ℕ) : Type 0 where
+pub record Insertion (kept body kept' : List ℕ) : Type 0 where
   pub insert : Insert
   pub is_insert : IsInsert insert
-  pub key : v.key ≡ insert.key
-  pub props : v.props ≡ insert.props
+  pub body_is : body ≡ insert.body
   pub whole : kept ≡ print_insert insert ++ kept'
 
-pub insert_made : (kept : List ℕ) (head n : ℕ) (v : NewEntity) → IsOpened kept head n → head + n ≤ length kept → HasEntity (take n (drop head kept)) v → Insertion kept v (drop (head + n) kept)
-insert_made kept head n v o le has =
+pub insert_made : (kept : List ℕ) (head n : ℕ) → IsOpened kept head n → head + n ≤ length kept → Insertion kept (take n (drop head kept)) (drop (head + n) kept)
+insert_made kept head n o le =
     let h = o.opening in
-    let i : Insert = record { target = h.head.target; fields = h.head.fields; members = has.members; key = v.key; props = v.props } in
+    let body : List ℕ = take n (drop head kept) in
+    let i : Insert = record { target = h.head.target; fields = h.head.fields; body = body } in
     let printed : print_head h.head ≡ print_head (head_of i) = head_prints h.head h.opening.method ∙ sym (head_prints (head_of i) refl) in
-    let size : length (print_object has.members) ≡ n = ap (length {A = ℕ}) (sym has.whole) ∙ (length-take n (drop head kept) ∙ omega (arith, length-drop head kept)) in
-    let parts : kept ≡ take head kept ++ (take n (drop head kept) ++ drop n (drop head kept)) = sym (take-append-drop head kept) ∙ ap (λ (x : List ℕ). take head kept ++ x) (sym (take-append-drop n (drop head kept))) in
+    let size : length body ≡ n = length-take n (drop head kept) ∙ omega (arith, length-drop head kept, le) in
+    let parts : kept ≡ take head kept ++ (body ++ drop n (drop head kept)) = sym (take-append-drop head kept) ∙ ap (λ (x : List ℕ). take head kept ++ x) (sym (take-append-drop n (drop head kept))) in
     let rest : drop n (drop head kept) ≡ drop (head + n) kept = drop-drop n head kept in
-    let front_is : take head kept ++ take n (drop head kept) ≡ print_insert i = ap (λ (x : List ℕ). x ++ take n (drop head kept)) (h.whole ∙ printed) ∙ ap (λ (x : List ℕ). print_head (head_of i) ++ x) has.whole in
+    let front_is : take head kept ++ body ≡ print_insert i = ap (λ (x : List ℕ). x ++ body) (h.whole ∙ printed) in
     record {
       insert = i;
       is_insert = record {
@@ -209,11 +190,9 @@ insert_made kept head n v o le has =
         };
         table = h.opening.table;
         framed = subst (λ (k : ℕ). IsFramed h.head.fields k) (sym size) h.opening.framed;
-        entity = has.entity;
       };
-      key = refl;
-      props = refl;
-      whole = parts ∙ sym (append_assoc (take head kept) (take n (drop head kept)) (drop n (drop head kept))) ∙ ap (λ (x : List ℕ). x ++ drop n (drop head kept)) front_is ∙ ap (λ (x : List ℕ). print_insert i ++ x) rest;
+      body_is = refl;
+      whole = parts ∙ sym (append_assoc (take head kept) body (drop n (drop head kept))) ∙ ap (λ (x : List ℕ). x ++ drop n (drop head kept)) front_is ∙ ap (λ (x : List ℕ). print_insert i ++ x) rest;
     }
 
 -- the body as a slice of the code

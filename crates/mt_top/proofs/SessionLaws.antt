@@ -1,30 +1,29 @@
 -- How the turns of a session add up.
-use Rattle.std.proofs.Common.{◌≡◌, ◌≢◌, ℕ, ◌≤◌, true, List, [], ◌∷◌, ◌++◌, length, Option, Some, None, Ok, Err, refl, sym, ap, ◌∙◌, arith, append_assoc, append-nil, subst, inl, inr}
-use Rattle.std.specs.Prelude.{Result, IfSome, All, ◌⊎◌, map}
-use Rattle.std.proofs.lemmas.List.Elements.{All-map}
-use Rattle.std.proofs.lemmas.List.Sorted.{All-permutation}
-use Rattle.mt_model.specs.declared.key.Key.{Key}
-use Rattle.mt_model.specs.declared.tag.Tag.{Tag}
-use Rattle.mt_model.specs.declared.value.Prop.{Prop}
-use Rattle.mt_model.specs.Name.{is_plain_name}
+use Rattle.std.proofs.Common.{◌≡◌, ℕ, ◌≤◌, List, [], ◌∷◌, ◌++◌, length, Option, Some, None, Ok, Err, refl, sym, ap, ◌∙◌, arith, append_assoc, append-nil, subst, inl, inr}
+use Rattle.std.specs.Prelude.{Result, IfSome, ◌⊎◌}
+use Rattle.mt_json.specs.declared.read.Body.{Body}
+use Rattle.mt_json.specs.declared.read.JsonFault.{JsonFault}
 use Rattle.mt_io.specs.Ends.{Input, Output, Rose, before_known, after_known}
 use Rattle.mt_io.proofs.Pieces.{after_after, after_nothing, before_before, before_nothing}
 use Rattle.mt_chain.specs.StoreCall.{Contents}
 use Rattle.mt_chain.specs.Store.{Store, Onward, Same}
-use Rattle.mt_top.specs.declared.entity.NewEntity.{NewEntity}
+use Rattle.mt_top.specs.declared.asks.Asked.{Asked}
+use Rattle.mt_top.specs.declared.asks.Asked.TheVariants.{Entity, Refused as Refusing}
 use Rattle.mt_top.specs.declared.session.SessionEnd.{SessionEnd}
 use Rattle.mt_top.specs.declared.session.SessionEnd.TheVariants.{Input as AtEnd, BadInput}
 use Rattle.mt_top.specs.declared.session.SessionFault.{SessionFault}
 use Rattle.mt_top.specs.declared.session.SessionFault.TheVariants.{ReadFault, WriteFault, StoreFault, NoMemory}
+use Rattle.mt_top.specs.declared.session.Turn.{Turn}
 use Rattle.mt_top.specs.declared.session.Turn.TheVariants.{Answered, Ended}
-use Rattle.mt_top.specs.Inserts.{Insert, IsInsert, IsEntity, properties, text_prop, print_insert}
-use Rattle.mt_top.specs.Reading.{Took, Broke}
-use Rattle.mt_top.specs.Replies.{unsupported_reply, created_reply}
-use Rattle.mt_top.specs.Storing.{marker, Born, Added, WasThere}
-use Rattle.mt_top.specs.Session.{Answer, Created, Exists, Exchange, bytes_of, written_of, reply_to, AreInserts, IsFresh, Fits, Talk, Sent, Cut, Serves}
-use Rattle.mt_top.specs.Turns.{IsNew, Replies, Stores, AnswersOne, OneMore, Turned}
+use Rattle.mt_top.specs.Asks.{Asks, AsksBy}
+use Rattle.mt_top.specs.Inserts.{Insert, print_insert}
+use Rattle.mt_top.specs.Reading.{Later, Took, Broke}
+use Rattle.mt_top.specs.Replies.{unsupported_reply}
+use Rattle.mt_top.specs.Storing.{Born, Added, WasThere}
+use Rattle.mt_top.specs.Session.{Answer, Created, Exists, Refused, Exchange, bytes_of, written_of, IsExchange, IsReplyTo, AreInserts, IsFresh, Fits, Talk, Sent, Cut, Serves}
+use Rattle.mt_top.specs.Turns.{IsSound, Replies, Stores, AnswersAs, AnswersOne, AnswersBodyAs, OneMore, AnswersTurn, AnswersTurnAs, TurnAs, Turned}
 use Rattle.mt_top.proofs.StoringLaws.{not_marker}
-use Rattle.mt_top.proofs.FitLaws.{added, born, was_there, fresh_fits}
+use Rattle.mt_top.proofs.FitLaws.{added, born, was_there, was_refused, fresh_fits}
 
 -- ---- bytes sent one after the other
 
@@ -42,41 +41,68 @@ cut_after w y x a b le p q =
       cause = omega arith;
     }
 
--- ---- an entity that was read
+-- ---- what a body asks for
 
-plain_names : (ms : List (List ℕ × List ℕ)) (props : List Prop) (key : Key) → IsEntity ms key props → All (λ p. is_plain_name p.name ≡ true) props
-plain_names ms props key e =
-    All-permutation (λ (p : Prop). is_plain_name p.name ≡ true) (map text_prop (properties ms)) props e.props_are
-    (All-map (λ (p : Prop). is_plain_name p.name ≡ true) text_prop (properties ms) e.names)
+sound_by : (read : Result Body JsonFault) (asks : Asked) → AsksBy read asks → IsSound asks
+sound_by (Ok body) (Entity v) a = a.valid
+sound_by (Err fault) (Entity v) a = absurd a
+sound_by read (Refusing r) a = tt
 
-pub is_new : (known : Option (List ℕ)) (v : NewEntity) (known' : Option (List ℕ)) → Took known v known' → IsNew v
-is_new known v known' t =
-    let P : Key → Type 0 = λ k. Rattle.mt_model.specs.Key.key_fault k.pk k.rk ≡ None in
-    let Q : List Prop → Type 0 = λ ps. All (λ p. is_plain_name p.name ≡ true) ps in
-    record {
-      valid = subst P (sym t.key) t.is_insert.entity.key_is_valid;
-      names = subst Q (sym t.props) (plain_names t.insert.members t.insert.props t.insert.key t.is_insert.entity);
-    }
+pub is_sound : (body : List ℕ) (asks : Asked) → Asks body asks → IsSound asks
+is_sound body asks a = sound_by a.0 asks a.2
 
 -- ---- an answer whose reply was tried
 
-pub created_answer : (k k' : Store) (w x : Output) (v : NewEntity) (tag : Tag) (bytes : List ℕ) (r : Result (Unit {0}) SessionFault)
-    → k'.number ≡ k.number → k.faults ≤ k'.faults → Stores k v.key v.props (Created tag) k' → bytes ≡ created_reply v.key v.props tag → Replies w bytes r x → AnswersOne k w v r k' x
-created_answer k k' w x v tag bytes (Ok u) number faults stores is reply = record {
+pub answered : (k k' : Store) (w x : Output) (asks : Asked) (given : Answer) (bytes : List ℕ) (r : Result (Unit {0}) SessionFault)
+    → k'.number ≡ k.number → k.faults ≤ k'.faults → Stores k asks given k' → IsReplyTo asks given bytes → Replies w bytes r x → AnswersOne k w asks r k' x
+answered k k' w x asks given bytes (Ok u) number faults stores is reply = record {
   number = number;
   faults_store = faults;
   faults_out = reply.faults;
-  answers = record { given = Created tag; stores = stores; replied = subst (λ b. Sent w b x) is reply.replied };
+  answers = record { given = given; reply = bytes; stores = stores; is_reply = is; replied = reply.replied };
 }
-created_answer k k' w x v tag bytes (Err ReadFault) number faults stores is reply = absurd reply.replied
-created_answer k k' w x v tag bytes (Err WriteFault) number faults stores is reply = record {
+answered k k' w x asks given bytes (Err ReadFault) number faults stores is reply = absurd reply.replied
+answered k k' w x asks given bytes (Err WriteFault) number faults stores is reply = record {
   number = number;
   faults_store = faults;
   faults_out = reply.faults;
-  answers = record { given = Created tag; stores = stores; replied = subst (λ b. Cut w b x) is reply.replied };
+  answers = record { given = given; reply = bytes; stores = stores; is_reply = is; replied = reply.replied };
 }
-created_answer k k' w x v tag bytes (Err StoreFault) number faults stores is reply = absurd reply.replied
-created_answer k k' w x v tag bytes (Err NoMemory) number faults stores is reply = absurd reply.replied
+answered k k' w x asks given bytes (Err StoreFault) number faults stores is reply = absurd reply.replied
+answered k k' w x asks given bytes (Err NoMemory) number faults stores is reply = absurd reply.replied
+
+-- ---- the answer to a body
+
+body_as : (k k' : Store) (w x : Output) (body : List ℕ) (asks : Asked) (r : Result (Unit {0}) SessionFault) → Asks body asks → AnswersAs k w asks r k' x → AnswersBodyAs k w body r k' x
+body_as k k' w x body asks (Ok u) a n = record { asks = asks; is_asked = a; answering = n }
+body_as k k' w x body asks (Err ReadFault) a n = absurd n
+body_as k k' w x body asks (Err WriteFault) a n = record { asks = asks; is_asked = a; answering = n }
+body_as k k' w x body asks (Err StoreFault) a n = n
+body_as k k' w x body asks (Err NoMemory) a n = n
+
+pub turn_made : (k k' : Store) (w x : Output) (body : List ℕ) (asks : Asked) → Asks body asks → AnswersOne k w asks (Ok tt) k' x → AnswersTurn k w body (Ok Answered) k' x
+turn_made k k' w x body asks a n = record { number = n.number; faults_store = n.faults_store; faults_out = n.faults_out; answers = body_as k k' w x body asks (Ok tt) a n.answers }
+
+pub turn_failed : (k k' : Store) (w x : Output) (body : List ℕ) (asks : Asked) (fault : SessionFault) → Asks body asks → AnswersOne k w asks (Err fault) k' x → AnswersTurn k w body (Err fault) k' x
+turn_failed k k' w x body asks fault a n = record { number = n.number; faults_store = n.faults_store; faults_out = n.faults_out; answers = body_as k k' w x body asks (Err fault) a n.answers }
+
+-- an insert was read, and then answered
+turn_as : (known known' : Option (List ℕ)) (s t : Input) (w x : Output) (k k' : Store) (body : List ℕ) (r : Result Turn SessionFault) → Took known body known' → AnswersTurnAs k w body r k' x → TurnAs known s w k r known' t x k'
+turn_as known known' s t w x k k' body (Ok Answered) took a = record { body = body; took = took; answered = a }
+turn_as known known' s t w x k k' body (Ok (Ended end)) took a = absurd a
+turn_as known known' s t w x k k' body (Err ReadFault) took a = absurd a
+turn_as known known' s t w x k k' body (Err WriteFault) took a = inl (record { body = body; took = took; answered = a })
+turn_as known known' s t w x k k' body (Err StoreFault) took a = a
+turn_as known known' s t w x k k' body (Err NoMemory) took a = a
+
+pub turned : (known known' : Option (List ℕ)) (s t : Input) (w x : Output) (k k' : Store) (body slice : List ℕ) (r : Result Turn SessionFault) → Later s t → Took known body known' → slice ≡ body → AnswersTurn k w slice r k' x → Turned known s w k r known' t x k'
+turned known known' s t w x k k' body slice r later took same a = record {
+  number = a.number;
+  faults = later.faults;
+  faults_out = a.faults_out;
+  faults_store = a.faults_store;
+  turn = turn_as known known' s t w x k k' body r took (subst (λ b. AnswersTurnAs k w b r k' x) same a.answers);
+}
 
 -- ---- what the store tells
 
@@ -90,55 +116,64 @@ pub onward_same : (P : Contents → Contents → Type 0) (x : Option Contents) �
 onward_same P None f = tt
 onward_same P (Some a) f = f a
 
+onward_after : (P Q : Contents → Contents → Type 0) (x y : Option Contents) → ((a b : Contents) → P a b → Q a b) → Onward P x y → Onward Q x y
+onward_after P Q x None f p = tt
+onward_after P Q None (Some b) f p = absurd p
+onward_after P Q (Some a) (Some b) f p = f a b p
+
 -- ---- one more exchange
 
 FitsFrom : ℕ → List Exchange → Contents → Contents → Type 0
 FitsFrom store es a b = IsFresh a → Fits store es b
 
-abbrev pub exchange : Insert → Answer → Exchange
-exchange i a = record { insert = i; answer = a }
-
 bytes_more : (es : List Exchange) (e : Exchange) → bytes_of (es ++ e ∷ []) ≡ bytes_of es ++ print_insert e.insert
 bytes_more [] e = append-nil (print_insert e.insert)
 bytes_more (f ∷ es) e = ap (λ v. print_insert f.insert ++ v) (bytes_more es e) ∙ sym (append_assoc (print_insert f.insert) (bytes_of es) (print_insert e.insert))
 
-abbrev pub reply_of : Exchange → List ℕ
-reply_of e = reply_to e.insert.key e.insert.props e.answer
+written_more : (es : List Exchange) (e : Exchange) → written_of (es ++ e ∷ []) ≡ written_of es ++ e.reply
+written_more [] e = append-nil e.reply
+written_more (f ∷ es) e = ap (λ v. f.reply ++ v) (written_more es e) ∙ sym (append_assoc f.reply (written_of es) e.reply)
 
-written_more : (es : List Exchange) (e : Exchange) → written_of (es ++ e ∷ []) ≡ written_of es ++ reply_of e
-written_more [] e = append-nil (reply_of e)
-written_more (f ∷ es) e = ap (λ v. reply_of f ++ v) (written_more es e) ∙ sym (append_assoc (reply_of f) (written_of es) (reply_of e))
-
-inserts_more : (es : List Exchange) (e : Exchange) → AreInserts es → IsInsert e.insert → AreInserts (es ++ e ∷ [])
+inserts_more : (es : List Exchange) (e : Exchange) → AreInserts es → IsExchange e → AreInserts (es ++ e ∷ [])
 inserts_more [] e all i = (i, tt)
 inserts_more (f ∷ es) e all i = (all.0, inserts_more es e all.1 i)
 
+-- the exchange of an insert and what it was answered
+abbrev pub exchange : Insert → Asked → Answer → List ℕ → Exchange
+exchange i asks answer y = record { insert = i; asks = asks; answer = answer; reply = y }
+
 -- the store fits one more answer
-stores_more : (store : ℕ) (es : List Exchange) (i : Insert) (a : Answer) (k u v : Store) → u.number ≡ store → i.key.rk ≢ marker
-    → Onward (λ x y. IsFresh x → Fits store es y) k.told u.told → Stores u i.key i.props a v → Onward (λ x y. IsFresh x → Fits store (es ++ exchange i a ∷ []) y) k.told v.told
-stores_more store es i (Created tag) k u v same plain f s =
-    onward_both (λ x y. IsFresh x → Fits store es y) (λ b c. Born u.number i.key i.props tag b c ⊎ Added u.number i.key i.props tag b c) (λ x y. IsFresh x → Fits store (es ++ exchange i (Created tag) ∷ []) y) k.told u.told v.told
-    (λ x y z p q fresh. elim q as (λ _. Fits store (es ++ exchange i (Created tag) ∷ []) z) [
-      | inl b ↦ born store es i tag y z (p fresh) plain (subst (λ n. Born n i.key i.props tag y z) same b)
-      | inr b ↦ added store es i tag y z (p fresh) plain (subst (λ n. Added n i.key i.props tag y z) same b)
+stores_more : (store : ℕ) (es : List Exchange) (i : Insert) (asks : Asked) (a : Answer) (y : List ℕ) (k u v : Store) → u.number ≡ store → IsSound asks
+    → Onward (λ x y. IsFresh x → Fits store es y) k.told u.told → Stores u asks a v → Onward (λ x z. IsFresh x → Fits store (es ++ exchange i asks a y ∷ []) z) k.told v.told
+stores_more store es i (Entity n) (Created tag) y k u v same sound f s =
+    let plain = not_marker n.key.pk n.key.rk sound in
+    onward_both (λ x y. IsFresh x → Fits store es y) (λ b c. Born u.number n.key n.props tag b c ⊎ Added u.number n.key n.props tag b c) (λ x z. IsFresh x → Fits store (es ++ exchange i (Entity n) (Created tag) y ∷ []) z) k.told u.told v.told
+    (λ x b c p q fresh. elim q as (λ _. Fits store (es ++ exchange i (Entity n) (Created tag) y ∷ []) c) [
+      | inl o ↦ born store es i n tag y b c (p fresh) plain (subst (λ m. Born m n.key n.props tag b c) same o)
+      | inr o ↦ added store es i n tag y b c (p fresh) plain (subst (λ m. Added m n.key n.props tag b c) same o)
     ]) f s
-stores_more store es i Exists k u v same plain f s =
-    onward_both (λ x y. IsFresh x → Fits store es y) (WasThere i.key) (λ x y. IsFresh x → Fits store (es ++ exchange i Exists ∷ []) y) k.told u.told v.told
-    (λ x y z p q fresh. was_there store es i y z (p fresh) plain q) f s
+stores_more store es i (Entity n) Exists y k u v same sound f s =
+    let plain = not_marker n.key.pk n.key.rk sound in
+    onward_both (λ x y. IsFresh x → Fits store es y) (WasThere n.key) (λ x z. IsFresh x → Fits store (es ++ exchange i (Entity n) Exists y ∷ []) z) k.told u.told v.told
+    (λ x b c p q fresh. was_there store es i n y b c (p fresh) plain q) f s
+stores_more store es i (Entity n) (Refused r) y k u v same sound f s = absurd s
+stores_more store es i (Refusing q) (Created tag) y k u v same sound f s = absurd s
+stores_more store es i (Refusing q) Exists y k u v same sound f s = absurd s
+stores_more store es i (Refusing q) (Refused r) y k u v same sound f s =
+    onward_after (λ x y. IsFresh x → Fits store es y) (λ x z. IsFresh x → Fits store (es ++ exchange i (Refusing q) (Refused r) y ∷ []) z) k.told v.told
+    (λ x b p fresh. was_refused store es i q r y b (p fresh) s.0) (subst (λ (z : Store). Onward (λ x y. IsFresh x → Fits store es y) k.told z.told) (sym s.1) f)
 
 -- an exchange follows those that were made
 module _ (known : Option (List ℕ)) (k : Store) (es : List Exchange) (known' : Option (List ℕ)) (u : Store) (talk : Talk known k es known' u) where
-  pub talk_more : (v : NewEntity) (known'' : Option (List ℕ)) (a : Answer) (u' : Store) → (t : Took known' v known'') → Stores u v.key v.props a u' → u'.number ≡ u.number
-      → Talk known k (es ++ exchange t.insert a ∷ []) known'' u'
-  talk_more v known'' a u' t s number =
-      let i : Insert = t.insert in
-      let stores : Stores u i.key i.props a u' = subst (λ ps. Stores u i.key ps a u') t.props (subst (λ key. Stores u key v.props a u') t.key s) in
+  pub talk_more : (i : Insert) (asks : Asked) (a : Answer) (y : List ℕ) (known'' : Option (List ℕ)) (u' : Store) → IsExchange (exchange i asks a y) → known' ≡ before_known (print_insert i) known'' → Stores u asks a u' → u'.number ≡ u.number
+      → Talk known k (es ++ exchange i asks a y ∷ []) known'' u'
+  talk_more i asks a y known'' u' is read s number =
       record {
-        inserts = inserts_more es (exchange i a) talk.inserts t.is_insert;
-        read = talk.read ∙ ap (before_known (bytes_of es)) t.read ∙ before_before (bytes_of es) (print_insert i) known''
-            ∙ ap (λ b. before_known b known'') (sym (bytes_more es (exchange i a)));
+        inserts = inserts_more es (exchange i asks a y) talk.inserts is;
+        read = talk.read ∙ ap (before_known (bytes_of es)) read ∙ before_before (bytes_of es) (print_insert i) known''
+            ∙ ap (λ b. before_known b known'') (sym (bytes_more es (exchange i asks a y)));
         number = number ∙ talk.number;
-        fits = stores_more k.number es i a k u u' talk.number (not_marker i.key.pk i.key.rk t.is_insert.entity.key_is_valid) talk.fits stores;
+        fits = stores_more k.number es i asks a y k u u' talk.number (is_sound i.body asks is.is_asked) talk.fits s;
       }
 
   pub talk_same : (u' : Store) → Onward Same u.told u'.told → u'.number ≡ u.number → Talk known k es known' u'
@@ -182,26 +217,34 @@ nothing_left kept None e = tt
 nothing_left kept (Some all) e = last_empty kept all e
 
 module _ (s : Input) (w : Output) (k : Store) (known' : Option (List ℕ)) (t : Input) (x : Output) (u : Store) (known'' : Option (List ℕ)) (t' : Input) (x' : Output) (u' : Store) (on : On s w k known' t x u) where
-  sent_more : (v : NewEntity) (a : Answer) (i : Insert) → v.key ≡ i.key → v.props ≡ i.props → Sent x (reply_to v.key v.props a) x' → Sent w (written_of (on.es ++ exchange i a ∷ [])) x'
-  sent_more v a i e f q =
-      let reply : reply_to v.key v.props a ≡ reply_of (exchange i a) = ap (λ key. reply_to key v.props a) e ∙ ap (λ ps. reply_to i.key ps a) f in
-      sent_after w x x' (written_of on.es) (reply_to v.key v.props a) on.sent q
-      ∙ ap (after_known w.held) (ap (λ b. written_of on.es ++ b) reply ∙ sym (written_more on.es (exchange i a)))
+  sent_more : (e : Exchange) → Sent x e.reply x' → Sent w (written_of (on.es ++ e ∷ [])) x'
+  sent_more e q = sent_after w x x' (written_of on.es) e.reply on.sent q ∙ ap (after_known w.held) (sym (written_more on.es e))
 
-  cut_more : (v : NewEntity) (a : Answer) (i : Insert) → v.key ≡ i.key → v.props ≡ i.props → Cut x (reply_to v.key v.props a) x' → Cut w (written_of (on.es ++ exchange i a ∷ [])) x'
-  cut_more v a i e f q =
-      let reply : reply_to v.key v.props a ≡ reply_of (exchange i a) = ap (λ key. reply_to key v.props a) e ∙ ap (λ ps. reply_to i.key ps a) f in
-      subst (λ b. Cut w b x') (ap (λ b. written_of on.es ++ b) reply ∙ sym (written_more on.es (exchange i a)))
-      (cut_after w x x' (written_of on.es) (reply_to v.key v.props a) on.faults_out on.sent q)
+  cut_more : (e : Exchange) → Cut x e.reply x' → Cut w (written_of (on.es ++ e ∷ [])) x'
+  cut_more e q = subst (λ b. Cut w b x') (sym (written_more on.es e)) (cut_after w x x' (written_of on.es) e.reply on.faults_out on.sent q)
+
+  -- the exchange that one more turn made
+  abbrev made : (r : Result (Unit {0}) SessionFault) → OneMore known' x u r known'' x' u' → Exchange
+  made r m = exchange m.took.insert m.answered.asks m.answered.answering.given m.answered.answering.reply
+
+  made_is : (r : Result (Unit {0}) SessionFault) (m : OneMore known' x u r known'' x' u') → IsExchange (made r m)
+  made_is r m = record {
+    is_insert = m.took.is_insert;
+    is_asked = subst (λ b. Asks b m.answered.asks) m.took.body_is m.answered.is_asked;
+    is_reply = m.answered.answering.is_reply;
+  }
+
+  talk_made : (r : Result (Unit {0}) SessionFault) (m : OneMore known' x u r known'' x' u') → u'.number ≡ u.number → Talk s.left k (on.es ++ made r m ∷ []) known'' u'
+  talk_made r m number =
+      talk_more s.left k on.es known' u on.talk m.took.insert m.answered.asks m.answered.answering.given m.answered.answering.reply known'' u' (made_is r m) m.took.read m.answered.answering.stores number
 
   pub go_on : Turned known' t x u (Ok Answered) known'' t' x' u' → On s w k known'' t' x' u'
   go_on y =
       let m : OneMore known' x u (Ok tt) known'' x' u' = y.turn in
-      let a : Answer = m.answering.given in
       record {
-        es = on.es ++ exchange m.took.insert a ∷ [];
-        talk = talk_more s.left k on.es known' u on.talk m.entity known'' a u' m.took m.answering.stores y.number;
-        sent = sent_more m.entity a m.took.insert m.took.key m.took.props m.answering.replied;
+        es = on.es ++ made (Ok tt) m ∷ [];
+        talk = talk_made (Ok tt) m y.number;
+        sent = sent_more (made (Ok tt) m) m.answered.answering.replied;
         faults = omega (arith, on.faults, y.faults);
         faults_out = omega (arith, on.faults_out, y.faults_out);
         faults_store = omega (arith, on.faults_store, y.faults_store);
@@ -242,10 +285,10 @@ module _ (s : Input) (w : Output) (k : Store) (known' : Option (List ℕ)) (t : 
   }
   failed WriteFault y = elim y.turn as (λ _. Serves s w k (Err WriteFault) t' x' u') [
     | inl m ↦ record {
-      exchanges = on.es ++ exchange m.took.insert m.answering.given ∷ [];
+      exchanges = on.es ++ made (Err WriteFault) m ∷ [];
       left = known'';
-      talk = talk_more s.left k on.es known' u on.talk m.entity known'' m.answering.given u' m.took m.answering.stores y.number;
-      ends = inl (cut_more m.entity m.answering.given m.took.insert m.took.key m.took.props m.answering.replied);
+      talk = talk_made (Err WriteFault) m y.number;
+      ends = inl (cut_more (made (Err WriteFault) m) m.answered.answering.replied);
       faults = omega (arith, on.faults, y.faults);
       faults_out = omega (arith, on.faults_out, y.faults_out);
       faults_store = omega (arith, on.faults_store, y.faults_store);

@@ -1,14 +1,12 @@
 -- Steps of reading a request: more bytes come, its head ends, its body is whole.
 use Rattle.std.specs.Prelude.{◌≡◌, ℕ, ◌+◌, ◌^◌, ◌<◌, ◌≤◌, Bool, true, false, List, [], ◌++◌, length, take, drop, Some, Result, Ok, Err, IfSome}
 use Rattle.mt_io.specs.Ends.{Input, Rose, before_known}
+use Rattle.mt_model.specs.declared.text.NoMemory.{NoMemory as NoRoom}
 use Rattle.mt_top.specs.declared.reader.HeadRead.{HeadRead}
 use Rattle.mt_top.specs.declared.reader.HeadRead.TheVariants.{Ended, Empty, Missing}
-use Rattle.mt_top.specs.declared.reader.Incoming.{Incoming}
-use Rattle.mt_top.specs.declared.reader.Incoming.TheVariants as incoming
 use Rattle.mt_top.specs.declared.reader.ReadFault.{ReadFault}
 use Rattle.mt_top.specs.declared.reader.ReadFault.TheVariants.{Failed, NoMemory}
 use Rattle.mt_top.specs.HeadEnds.{head_end}
-use Rattle.mt_top.specs.Members.{HasEntity, HasNoEntity}
 use Rattle.mt_top.specs.Peels.{HasHead}
 use Rattle.mt_top.specs.Reading.{ahead, Later, Broke, IsUnsupported}
 
@@ -79,10 +77,7 @@ pub record Waits (kept : List ℕ) (s : Input) (n : ℕ) (r : Result Bool ReadFa
   pub later : Later s t
   pub read : WaitsAs kept s n r kept' t
 
--- what the n bytes after the head are
-abbrev pub TakesAs : List ℕ → ℕ → ℕ → Result Incoming ReadFault → List ℕ → Type 0
-TakesAs kept head n (Ok (incoming.Insert v)) kept' = HasEntity (take n (drop head kept)) v × (kept' ≡ drop (head + n) kept)
-TakesAs kept head n (Ok incoming.End) kept' = ⊥
-TakesAs kept head n (Ok incoming.Other) kept' = HasNoEntity (take n (drop head kept)) × (kept' ≡ kept)
-TakesAs kept head n (Err Failed) kept' = ⊥
-TakesAs kept head n (Err NoMemory) kept' = Unit {0}
+-- the n bytes after the head, and what follows them
+abbrev pub TakesAs : List ℕ → ℕ → ℕ → Result (List ℕ) NoRoom → List ℕ → Type 0
+TakesAs kept head n (Ok body) kept' = (body ≡ take n (drop head kept)) × (kept' ≡ drop (head + n) kept)
+TakesAs kept head n (Err e) kept' = Unit {0}

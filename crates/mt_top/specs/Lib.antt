@@ -1,11 +1,11 @@
 pub mod Heads
-pub mod Bodies
 pub mod Inserts
+pub mod Refusals
+pub mod Asks
 pub mod Reading
 pub mod Runs
 pub mod Peels
 pub mod HeadEnds
-pub mod Members
 pub mod Filling
 pub mod Storing
 pub mod Replies

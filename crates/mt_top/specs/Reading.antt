@@ -1,7 +1,6 @@
 -- Bytes read and bytes still to be read, and what reading one request says of them.
 use Rattle.std.specs.Prelude.{◌≡◌, ℕ, ◌<◌, ◌≤◌, List, [], length, Option, Result, Ok, Err, IfSome}
 use Rattle.mt_io.specs.Ends.{Input, Rose, before_known}
-use Rattle.mt_top.specs.declared.entity.NewEntity.{NewEntity}
 use Rattle.mt_top.specs.declared.reader.Incoming.{Incoming}
 use Rattle.mt_top.specs.declared.reader.Incoming.TheVariants as incoming
 use Rattle.mt_top.specs.declared.reader.ReadFault.{ReadFault}
@@ -18,12 +17,11 @@ pub record Later (s t : Input) : Type 0 where
   pub calls : s.calls ≤ t.calls
   pub faults : s.faults ≤ t.faults
 
--- a plain insert with this entity was taken off the front of what is known
-pub record Took (known : Option (List ℕ)) (v : NewEntity) (known' : Option (List ℕ)) : Type 0 where
+-- a plain insert with this body was taken off the front of what is known
+pub record Took (known : Option (List ℕ)) (body : List ℕ) (known' : Option (List ℕ)) : Type 0 where
   pub insert : Insert
   pub is_insert : IsInsert insert
-  pub key : v.key ≡ insert.key
-  pub props : v.props ≡ insert.props
+  pub body_is : body ≡ insert.body
   pub read : known ≡ before_known (print_insert insert) known'
 
 -- a read failed: these bytes had been read since the last request, and no whole insert stands in them
@@ -38,7 +36,7 @@ abbrev pub IsUnsupported : Option (List ℕ) → Type 0
 IsUnsupported known = IfSome known (λ all. HasNoInsert all × (0 < length all))
 
 abbrev pub ReadAs : Option (List ℕ) → Input → Result Incoming ReadFault → Option (List ℕ) → Input → Type 0
-ReadAs known s (Ok (incoming.Insert v)) known' t = Took known v known'
+ReadAs known s (Ok (incoming.Insert body)) known' t = Took known body known'
 ReadAs known s (Ok incoming.End) known' t = (known ≡ known') × IfSome known (λ all. all ≡ [])
 ReadAs known s (Ok incoming.Other) known' t = IsUnsupported known
 ReadAs known s (Err Failed) known' t = Broke known s t

@@ -2,15 +2,13 @@
 use Rattle.std.specs.Prelude.{◌≡◌, ℕ, Bool, true, not, List, [], ◌∷◌, ◌++◌}
 use Rattle.std.specs.List.{list_all}
 use Rattle.mt_top.specs.declared.runs.Class.{Class}
-use Rattle.mt_top.specs.declared.runs.Class.TheVariants.{Target, Name, Value, Text}
+use Rattle.mt_top.specs.declared.runs.Class.TheVariants.{Target, Name, Value}
 use Rattle.mt_top.specs.Heads.{is_target_byte, is_name_byte, is_value_byte}
-use Rattle.mt_top.specs.Bodies.{is_plain_byte}
 
 abbrev pub in_class : Class → ℕ → Bool
 in_class Target c = is_target_byte c
 in_class Name c = is_name_byte c
 in_class Value c = is_value_byte c
-in_class Text c = is_plain_byte c
 
 -- no byte follows, or one that does not pass
 abbrev pub stops : (ℕ → Bool) → List ℕ → Bool

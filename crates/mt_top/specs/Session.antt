@@ -1,10 +1,9 @@
--- A connection of plain inserts: what each is answered, by one reference table, and what the old store then holds.
-use Rattle.std.specs.Prelude.{◌≡◌, ◌≢◌, ◌⊎◌, ℕ, ◌≤◌, Bool, true, false, ◌&&◌, bytes_eq, is_some, List, [], ◌∷◌, ◌++◌, Option, Some, None, Result, Ok, Err, IfSome, if◌then◌else◌}
+-- A connection of plain inserts: what each asks for and is answered, by one reference table, and what the old store then holds.
+use Rattle.std.specs.Prelude.{◌≡◌, ◌≢◌, ◌⊎◌, ℕ, ◌≤◌, Bool, true, false, bytes_eq, is_some, List, [], ◌∷◌, ◌++◌, Option, Some, None, Result, Ok, Err, IfSome, if◌then◌else◌}
 use Rattle.std.specs.List.{list_any, IsDistinct, AllByRecursion}
 use Rattle.std.specs.Ordering.{eq_by_cmp}
 use Rattle.mt_model.specs.declared.key.Key.{Key}
 use Rattle.mt_model.specs.declared.tag.Tag.{Tag}
-use Rattle.mt_model.specs.declared.value.Prop.{Prop}
 use Rattle.mt_model.specs.Key.{key_cmp}
 use Rattle.mt_io.specs.Ends.{Input, Output, Rose, before_known, after_known}
 use Rattle.mt_chain.specs.declared.row.Stored.{Stored}
@@ -12,41 +11,68 @@ use Rattle.mt_chain.specs.Rows.{row_at}
 use Rattle.mt_chain.specs.Puts.{is_same_tag}
 use Rattle.mt_chain.specs.StoreCall.{Contents}
 use Rattle.mt_chain.specs.Store.{Store, Onward}
+use Rattle.mt_json.specs.declared.write.Level.TheVariants.{Minimal}
+use Rattle.mt_json.specs.Written.{IsWritten}
+use Rattle.mt_top.specs.declared.asks.Asked.{Asked}
+use Rattle.mt_top.specs.declared.asks.Asked.TheVariants as asked
+use Rattle.mt_top.specs.declared.asks.NewEntity.{NewEntity}
+use Rattle.mt_top.specs.declared.refusals.Refusal.{Refusal}
 use Rattle.mt_top.specs.declared.session.SessionEnd.{SessionEnd}
 use Rattle.mt_top.specs.declared.session.SessionEnd.TheVariants.{Input as AtEnd, BadInput}
 use Rattle.mt_top.specs.declared.session.SessionFault.{SessionFault}
 use Rattle.mt_top.specs.declared.session.SessionFault.TheVariants.{ReadFault, WriteFault, StoreFault, NoMemory}
+use Rattle.mt_top.specs.Asks.{Asks}
 use Rattle.mt_top.specs.Inserts.{Insert, IsInsert, print_insert}
 use Rattle.mt_top.specs.Reading.{Broke, IsUnsupported}
+use Rattle.mt_top.specs.Refusals.{refused_reply}
 use Rattle.mt_top.specs.Replies.{created_reply, exists_reply, unsupported_reply}
 use Rattle.mt_top.specs.Storing.{marker, use_old, stored}
 
--- what an insert is answered: the tag of its new row, or that the row is there
+-- what an insert is answered: the tag of its new row, that the row is there, or why it is refused
 pub data Answer : Type 0 where
   Created : Tag → Answer
   Exists : Answer
+  Refused : Refusal → Answer
 
+-- a request, what its body asks for, its answer, and the bytes of its reply
 pub record Exchange : Type 0 where
   pub insert : Insert
+  pub asks : Asked
   pub answer : Answer
+  pub reply : List ℕ
 
 -- the bytes of these requests, one after the other
 abbrev pub bytes_of : List Exchange → List ℕ
 bytes_of [] = []
 bytes_of (e ∷ es) = print_insert e.insert ++ bytes_of es
 
-abbrev pub reply_to : Key → List Prop → Answer → List ℕ
-reply_to key props (Created tag) = created_reply key props tag
-reply_to key props Exists = exists_reply
-
--- the bytes of their replies
+-- the bytes of their replies, one after the other
 abbrev pub written_of : List Exchange → List ℕ
 written_of [] = []
-written_of (e ∷ es) = reply_to e.insert.key e.insert.props e.answer ++ written_of es
+written_of (e ∷ es) = e.reply ++ written_of es
+
+-- the reply to a new row has the row's entity with its tag, in the form of `mt_json`
+abbrev pub IsCreatedReply : NewEntity → Tag → List ℕ → Type 0
+IsCreatedReply v tag reply = (text : List ℕ) × IsWritten (record { key = v.key; props = v.props; tag = tag }) Minimal None text × (reply ≡ created_reply tag text)
+
+-- the bytes are the reply of an answer to what is asked for: a refusal is answered as it is, and an entity by its row
+abbrev pub IsReplyTo : Asked → Answer → List ℕ → Type 0
+IsReplyTo (asked.Entity v) (Created tag) reply = IsCreatedReply v tag reply
+IsReplyTo (asked.Entity v) Exists reply = reply ≡ exists_reply
+IsReplyTo (asked.Entity v) (Refused r) reply = ⊥
+IsReplyTo (asked.Refused q) (Created tag) reply = ⊥
+IsReplyTo (asked.Refused q) Exists reply = ⊥
+IsReplyTo (asked.Refused q) (Refused r) reply = (r ≡ q) × (reply ≡ refused_reply r)
+
+-- the request is a plain insert, its body asks for this, and the reply is that of its answer
+pub record IsExchange (e : Exchange) : Type 0 where
+  pub is_insert : IsInsert e.insert
+  pub is_asked : Asks e.insert.body e.asks
+  pub is_reply : IsReplyTo e.asks e.answer e.reply
 
 abbrev pub AreInserts : List Exchange → Type 0
 AreInserts [] = Unit {0}
-AreInserts (e ∷ es) = IsInsert e.insert × AreInserts es
+AreInserts (e ∷ es) = IsExchange e × AreInserts es
 
 -- ---- the reference table
 
@@ -60,29 +86,36 @@ empty_table key = None
 abbrev pub with_entry : Table → Key → Stored → Table
 with_entry table key row k = if eq_by_cmp key_cmp key k then Some row else table k
 
--- the table after an exchange
-abbrev pub after_answer : Table → Insert → Answer → Table
-after_answer table i (Created tag) = with_entry table i.key (stored i.props tag)
-after_answer table i Exists = table
+-- the table after an answer
+abbrev pub after_answer : Table → Asked → Answer → Table
+after_answer table (asked.Entity v) (Created tag) = with_entry table v.key (stored v.props tag)
+after_answer table (asked.Entity v) Exists = table
+after_answer table (asked.Entity v) (Refused r) = table
+after_answer table (asked.Refused q) answer = table
 
 abbrev pub table_after : Table → List Exchange → Table
 table_after table [] = table
-table_after table (e ∷ es) = table_after (after_answer table e.insert e.answer) es
+table_after table (e ∷ es) = table_after (after_answer table e.asks e.answer) es
 
--- an insert is written, with a tag of that store, exactly where the table has no row at its key
-abbrev pub IsAnswer : ℕ → Table → Insert → Answer → Type 0
-IsAnswer store table i (Created tag) = (table i.key ≡ None) × (tag.store ≡ store)
-IsAnswer store table i Exists = is_some (table i.key) ≡ true
+-- an entity is written, with a tag of that store, exactly where the table has no row at its key; a refusal is answered as it is
+abbrev pub IsAnswer : ℕ → Table → Asked → Answer → Type 0
+IsAnswer store table (asked.Entity v) (Created tag) = (table v.key ≡ None) × (tag.store ≡ store)
+IsAnswer store table (asked.Entity v) Exists = is_some (table v.key) ≡ true
+IsAnswer store table (asked.Entity v) (Refused r) = ⊥
+IsAnswer store table (asked.Refused q) (Created tag) = ⊥
+IsAnswer store table (asked.Refused q) Exists = ⊥
+IsAnswer store table (asked.Refused q) (Refused r) = r ≡ q
 
 -- each is answered as the table at its place says
 abbrev pub AreAnswered : ℕ → Table → List Exchange → Type 0
 AreAnswered store table [] = Unit {0}
-AreAnswered store table (e ∷ es) = IsAnswer store table e.insert e.answer × AreAnswered store (after_answer table e.insert e.answer) es
+AreAnswered store table (e ∷ es) = IsAnswer store table e.asks e.answer × AreAnswered store (after_answer table e.asks e.answer) es
 
 -- the tags that were given
 abbrev pub tag_before : Answer → List Tag → List Tag
 tag_before (Created tag) tags = tag ∷ tags
 tag_before Exists tags = tags
+tag_before (Refused r) tags = tags
 
 abbrev pub tags_given : List Exchange → List Tag
 tags_given [] = []
@@ -90,13 +123,16 @@ tags_given (e ∷ es) = tag_before e.answer (tags_given es)
 
 -- ---- what the old store holds
 
-abbrev pub is_created : Answer → Bool
-is_created (Created tag) = true
-is_created Exists = false
+-- a row of that partition was written
+abbrev pub is_written_in : List ℕ → Asked → Answer → Bool
+is_written_in pk (asked.Entity v) (Created tag) = bytes_eq pk v.key.pk
+is_written_in pk (asked.Entity v) Exists = false
+is_written_in pk (asked.Entity v) (Refused r) = false
+is_written_in pk (asked.Refused q) answer = false
 
 -- some row of that partition was written
 abbrev pub is_born : List ℕ → List Exchange → Bool
-is_born pk es = list_any (λ e. is_created e.answer && bytes_eq pk e.insert.key.pk) es
+is_born pk es = list_any (λ e. is_written_in pk e.asks e.answer) es
 
 -- the marker of a partition that is there, with some tag; else none
 abbrev pub IsMark : Bool → Option Stored → Type 0

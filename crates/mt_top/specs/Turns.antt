@@ -1,27 +1,27 @@
 -- One turn of a session: one request read, answered and its reply written.
-use Rattle.std.specs.Prelude.{◌≡◌, ◌⊎◌, ℕ, ◌≤◌, true, All, List, [], Option, None, Result, Ok, Err, IfSome}
-use Rattle.mt_model.specs.declared.key.Key.{Key}
-use Rattle.mt_model.specs.declared.value.Prop.{Prop}
+use Rattle.std.specs.Prelude.{◌≡◌, ◌⊎◌, ℕ, ◌≤◌, List, [], Option, None, Result, Ok, Err, IfSome}
 use Rattle.mt_model.specs.Key.{key_fault}
-use Rattle.mt_model.specs.Name.{is_plain_name}
 use Rattle.mt_io.specs.Ends.{Input, Output, Rose}
 use Rattle.mt_chain.specs.Store.{Store, Onward, Same}
-use Rattle.mt_top.specs.declared.entity.NewEntity.{NewEntity}
+use Rattle.mt_top.specs.declared.asks.Asked.{Asked}
+use Rattle.mt_top.specs.declared.asks.Asked.TheVariants as asked
 use Rattle.mt_top.specs.declared.session.SessionEnd.TheVariants.{Input as AtEnd, BadInput}
 use Rattle.mt_top.specs.declared.session.SessionFault.{SessionFault}
 use Rattle.mt_top.specs.declared.session.SessionFault.TheVariants.{ReadFault, WriteFault, StoreFault, NoMemory}
 use Rattle.mt_top.specs.declared.session.Turn.{Turn}
 use Rattle.mt_top.specs.declared.session.Turn.TheVariants.{Answered, Ended}
+use Rattle.mt_top.specs.Asks.{Asks}
 use Rattle.mt_top.specs.Reading.{Took, Broke, IsUnsupported}
 use Rattle.mt_top.specs.Replies.{unsupported_reply}
 use Rattle.mt_top.specs.Storing.{Born, Added, WasThere}
-use Rattle.mt_top.specs.Session.{Answer, Created, Exists, reply_to, Sent, Cut}
+use Rattle.mt_top.specs.Session.{Answer, Created, Exists, Refused, IsReplyTo, Sent, Cut}
 
--- the entity of an insert: its key meets the rules, and its names are those of properties
-pub record IsNew (v : NewEntity) : Type 0 where
-  pub valid : key_fault v.key.pk v.key.rk ≡ None
-  pub names : All (λ p. is_plain_name p.name ≡ true) v.props
+-- what can be answered: a refusal, or an entity whose key meets the rules
+abbrev pub IsSound : Asked → Type 0
+IsSound (asked.Entity v) = key_fault v.key.pk v.key.rk ≡ None
+IsSound (asked.Refused r) = Unit {0}
 
+-- what a reply came to, by its result: it was sent, or cut
 abbrev pub RepliedAs : Output → List ℕ → Result (Unit {0}) SessionFault → Output → Type 0
 RepliedAs w bytes (Ok u) x = Sent w bytes x
 RepliedAs w bytes (Err ReadFault) x = ⊥
@@ -33,46 +33,70 @@ pub record Replies (w : Output) (bytes : List ℕ) (r : Result (Unit {0}) Sessio
   pub faults : w.faults ≤ x.faults
   pub replied : RepliedAs w bytes r x
 
--- what the store did for an answer
-abbrev pub Stores : Store → Key → List Prop → Answer → Store → Type 0
-Stores k key props (Created tag) k' = Onward (λ a b. Born k.number key props tag a b ⊎ Added k.number key props tag a b) k.told k'.told
-Stores k key props Exists k' = Onward (WasThere key) k.told k'.told
+-- what the store did for an answer; for a refusal nothing
+abbrev pub Stores : Store → Asked → Answer → Store → Type 0
+Stores k (asked.Entity v) (Created tag) k' = Onward (λ a b. Born k.number v.key v.props tag a b ⊎ Added k.number v.key v.props tag a b) k.told k'.told
+Stores k (asked.Entity v) Exists k' = Onward (WasThere v.key) k.told k'.told
+Stores k (asked.Entity v) (Refused r) k' = ⊥
+Stores k (asked.Refused q) (Created tag) k' = ⊥
+Stores k (asked.Refused q) Exists k' = ⊥
+Stores k (asked.Refused q) (Refused r) k' = (r ≡ q) × (k' ≡ k)
 
--- the insert was answered, with this result of writing the reply
-pub record Answering (k : Store) (w : Output) (v : NewEntity) (r : Result (Unit {0}) SessionFault) (k' : Store) (x : Output) : Type 0 where
+-- what was asked for was answered, with this result of writing the reply
+pub record Answering (k : Store) (w : Output) (asks : Asked) (r : Result (Unit {0}) SessionFault) (k' : Store) (x : Output) : Type 0 where
   pub given : Answer
-  pub stores : Stores k v.key v.props given k'
-  pub replied : RepliedAs w (reply_to v.key v.props given) r x
+  pub reply : List ℕ
+  pub stores : Stores k asks given k'
+  pub is_reply : IsReplyTo asks given reply
+  pub replied : RepliedAs w reply r x
 
-abbrev pub AnswersAs : Store → Output → NewEntity → Result (Unit {0}) SessionFault → Store → Output → Type 0
-AnswersAs k w v (Ok u) k' x = Answering k w v (Ok u) k' x
-AnswersAs k w v (Err ReadFault) k' x = ⊥
-AnswersAs k w v (Err WriteFault) k' x = Answering k w v (Err WriteFault) k' x
-AnswersAs k w v (Err StoreFault) k' x = Rose k.faults k'.faults × Onward Same k.told k'.told × (x ≡ w)
-AnswersAs k w v (Err NoMemory) k' x = Onward Same k.told k'.told × (x ≡ w)
+-- what an answer came to, by its result
+abbrev pub AnswersAs : Store → Output → Asked → Result (Unit {0}) SessionFault → Store → Output → Type 0
+AnswersAs k w asks (Ok u) k' x = Answering k w asks (Ok u) k' x
+AnswersAs k w asks (Err ReadFault) k' x = ⊥
+AnswersAs k w asks (Err WriteFault) k' x = Answering k w asks (Err WriteFault) k' x
+AnswersAs k w asks (Err StoreFault) k' x = Rose k.faults k'.faults × Onward Same k.told k'.told × (x ≡ w)
+AnswersAs k w asks (Err NoMemory) k' x = Onward Same k.told k'.told × (x ≡ w)
 
-pub record AnswersOne (k : Store) (w : Output) (v : NewEntity) (r : Result (Unit {0}) SessionFault) (k' : Store) (x : Output) : Type 0 where
+-- the answer to what is asked for, with the counts of store and sink
+pub record AnswersOne (k : Store) (w : Output) (asks : Asked) (r : Result (Unit {0}) SessionFault) (k' : Store) (x : Output) : Type 0 where
   pub number : k'.number ≡ k.number
   pub faults_store : k.faults ≤ k'.faults
   pub faults_out : w.faults ≤ x.faults
-  pub answers : AnswersAs k w v r k' x
+  pub answers : AnswersAs k w asks r k' x
+
+-- the body asks for something that was answered
+pub record AnswersBody (k : Store) (w : Output) (body : List ℕ) (r : Result (Unit {0}) SessionFault) (k' : Store) (x : Output) : Type 0 where
+  pub asks : Asked
+  pub is_asked : Asks body asks
+  pub answering : Answering k w asks r k' x
+
+-- what the answer to a body came to, by its result
+abbrev pub AnswersBodyAs : Store → Output → List ℕ → Result (Unit {0}) SessionFault → Store → Output → Type 0
+AnswersBodyAs k w body (Ok u) k' x = AnswersBody k w body (Ok u) k' x
+AnswersBodyAs k w body (Err ReadFault) k' x = ⊥
+AnswersBodyAs k w body (Err WriteFault) k' x = AnswersBody k w body (Err WriteFault) k' x
+AnswersBodyAs k w body (Err StoreFault) k' x = Rose k.faults k'.faults × Onward Same k.told k'.told × (x ≡ w)
+AnswersBodyAs k w body (Err NoMemory) k' x = Onward Same k.told k'.told × (x ≡ w)
 
 -- an insert that was read and answered
 pub record OneMore (known : Option (List ℕ)) (w : Output) (k : Store) (r : Result (Unit {0}) SessionFault) (known' : Option (List ℕ)) (x : Output) (k' : Store) : Type 0 where
-  pub entity : NewEntity
-  pub took : Took known entity known'
-  pub answering : Answering k w entity r k' x
+  pub body : List ℕ
+  pub took : Took known body known'
+  pub answered : AnswersBody k w body r k' x
 
-abbrev pub AnswersTurnAs : Store → Output → NewEntity → Result Turn SessionFault → Store → Output → Type 0
-AnswersTurnAs k w v (Ok Answered) k' x = AnswersAs k w v (Ok tt) k' x
-AnswersTurnAs k w v (Ok (Ended end)) k' x = ⊥
-AnswersTurnAs k w v (Err fault) k' x = AnswersAs k w v (Err fault) k' x
+-- the answer to a body as a turn
+abbrev pub AnswersTurnAs : Store → Output → List ℕ → Result Turn SessionFault → Store → Output → Type 0
+AnswersTurnAs k w body (Ok Answered) k' x = AnswersBodyAs k w body (Ok tt) k' x
+AnswersTurnAs k w body (Ok (Ended end)) k' x = ⊥
+AnswersTurnAs k w body (Err fault) k' x = AnswersBodyAs k w body (Err fault) k' x
 
-pub record AnswersTurn (k : Store) (w : Output) (v : NewEntity) (r : Result Turn SessionFault) (k' : Store) (x : Output) : Type 0 where
+-- the answer to a body as a turn, with the counts of store and sink
+pub record AnswersTurn (k : Store) (w : Output) (body : List ℕ) (r : Result Turn SessionFault) (k' : Store) (x : Output) : Type 0 where
   pub number : k'.number ≡ k.number
   pub faults_store : k.faults ≤ k'.faults
   pub faults_out : w.faults ≤ x.faults
-  pub answers : AnswersTurnAs k w v r k' x
+  pub answers : AnswersTurnAs k w body r k' x
 
 abbrev pub RefusedAs : Output → Result Turn SessionFault → Output → Type 0
 RefusedAs w (Ok Answered) x = ⊥

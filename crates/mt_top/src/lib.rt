@@ -1,11 +1,11 @@
 //! The commands of the table server, over any source, sink and depot.
 #![tactic(auto)]
 
-mod bodies;
+mod asks;
 mod ends;
-mod entity;
 mod heads;
 mod reader;
+mod refusals;
 mod reply;
 mod running;
 mod runs;

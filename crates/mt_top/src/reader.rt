@@ -7,17 +7,17 @@ ghost use Rattle.mt_top.specs.Filling.{Fills, ReadsHead, Waits, TakesAs, IsOpene
 mod tests;
 
 use crate::ends::head_end;
-use crate::entity::{NewEntity, read_entity};
 use crate::heads::parse_head;
 use mt_io::{IoFault, Source};
+use mt_model::{Blob, NoMemory};
 use std::alloc::Global;
 use std::marker::Model;
 
 /// What stands next in the input.
 #[derive(Drop)]
 pub enum Incoming {
-    /// A whole plain insert.
-    Insert(NewEntity),
+    /// A whole plain insert, with this body.
+    Insert(Blob),
     /// The end of input.
     End,
     /// Anything else.
@@ -178,26 +178,16 @@ fn wait_for<S: Source>(reader: &mut Reader, source: &mut S, n: usize) -> Result<
     Ok(true)
 }
 
-/// Takes a request off whose head and body are there, if it is an insert.
-fn take_insert(
-    alloc: Global,
-    reader: &mut Reader,
-    head: usize,
-    body: usize,
-) -> Result<Incoming, ReadFault>
+/// Takes a head and its body off, and hands the body out.
+fn take_body(alloc: Global, reader: &mut Reader, head: usize, body: usize) -> Result<Blob, NoMemory>
     requires there { head + body ≤ length reader.old }
     requires small { head + body ≤ 4294967296 }
     ensures { TakesAs reader.old head body result reader.new }
 {
     let end = head + body;
-    match read_entity(alloc, &reader.as_slice()[head..end]) {
-        Ok(Some(entity)) => {
-            reader.skip(end);
-            Ok(Incoming::Insert(entity))
-        }
-        Ok(None) => Ok(Incoming::Other),
-        Err(_) => Err(ReadFault::NoMemory),
-    }
+    let bytes = Blob::of(alloc, &reader.as_slice()[head..end])?;
+    reader.skip(end);
+    Ok(bytes)
 }
 
 /// Reads the body after a head that stands at the front.
@@ -213,7 +203,10 @@ fn read_body<S: Source>(
     ensures { ReadsRequest reader.old (S.input source.old) result reader.new (S.input source.new) }
 {
     match wait_for(reader, source, head + body) {
-        Ok(true) => take_insert(alloc, reader, head, body),
+        Ok(true) => match take_body(alloc, reader, head, body) {
+            Ok(bytes) => Ok(Incoming::Insert(bytes)),
+            Err(NoMemory) => Err(ReadFault::NoMemory),
+        },
         Ok(false) => Ok(Incoming::Other),
         Err(fault) => Err(fault),
     }
@@ -223,8 +216,8 @@ fn read_body<S: Source>(
 ///
 /// A plain insert is `POST` on the table (whose name is compared without regard to case) with a
 /// head in the form of RFC 9112 of at most 16,384 bytes and 64 fields, and a body of the announced
-/// length, at most 4,194,304 bytes: a JSON object (RFC 8259) of texts without blanks and escapes.
-/// It is taken off the input. After `Other` and after an error nothing is said of the reader.
+/// length, at most 4,194,304 bytes, whatever these are; without Content-Length it is empty. It is
+/// taken off the input. After `Other` and after an error nothing is said of the reader.
 pub fn read_request<S: Source>(
     alloc: Global,
     reader: &mut Reader,

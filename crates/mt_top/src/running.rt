@@ -14,9 +14,9 @@ const USAGE: &[u8] = b"usage: mtable session|drill|serve [options]\n";
 
 /// The exit status of a run.
 ///
-/// 0: the input was plain inserts to its end. 2: the words are no command. 3: a read failed. 4: a
-/// write failed. 5: the depot or a store failed. 6: a store has a row or is sealed at the start.
-/// 7: the input had something else than a plain insert. 9: the allocator had no memory.
+/// 0: the input was plain inserts to its end, and each was answered. 2: the words are no command. 3: a
+/// read failed. 4: a write failed. 5: the depot or a store failed. 6: a store has a row or is sealed
+/// at the start. 7: the input had something else than a plain insert. 9: the allocator had no memory.
 #[derive(Clone, Copy, Debug, PartialEq, Eq)]
 pub struct Status {
     pub code: u8,

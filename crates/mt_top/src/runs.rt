@@ -11,8 +11,6 @@ pub enum Class {
     Name,
     /// Of a field's value: printable ASCII and blanks.
     Value,
-    /// Of a text of JSON without escapes.
-    Text,
 }
 
 impl Class {
@@ -23,7 +21,6 @@ impl Class {
             Class::Target => matches!(byte, b'!'..=b'~'),
             Class::Name => matches!(byte, b'A'..=b'Z' | b'a'..=b'z' | b'0'..=b'9' | b'-'),
             Class::Value => matches!(byte, b' '..=b'~'),
-            Class::Text => byte >= b' ' && byte != b'"' && byte != b'\\',
         }
     }
 }

@@ -1,13 +1,12 @@
-ghost use Rattle.std.specs.Prelude.{◌≡◌, ℕ, List, [], All, None, true};
-ghost use Rattle.mt_model.specs.Key.{key_fault};
-ghost use Rattle.mt_model.specs.Name.{is_plain_name};
+ghost use Rattle.mt_top.specs.declared.asks.Asked.TheVariants as asked;
 ghost use Rattle.mt_top.specs.Session.{Serves};
-ghost use Rattle.mt_top.specs.Turns.{IsNew, Replies, AnswersOne, AnswersTurn, Refuses, Turned};
+ghost use Rattle.mt_top.specs.Turns.{IsSound, Replies, AnswersOne, AnswersTurn, Refuses, Turned};
 ghost use Rattle.mt_top.specs.Reading.{ahead};
 
-use crate::entity::NewEntity;
+use crate::asks::{Asked, NewEntity, asked_by};
 use crate::reader::{Incoming, Reader, read_request};
-use crate::reply::{EXISTS, UNSUPPORTED, room_for, write_created};
+use crate::refusals::refused;
+use crate::reply::{EXISTS, UNSUPPORTED, created, prepare};
 use crate::storing::{Inserted, insert};
 use crate::{reader, storing};
 use mt_chain::Keeper;
@@ -55,42 +54,57 @@ fn reply<T: Sink>(sink: &mut T, bytes: &[u8]) -> Result<(), SessionFault>
     }
 }
 
-/// Answers an insert: all room for the reply is taken before the first store call.
-fn answer<K: Keeper, T: Sink>(
+/// Writes a new row and its reply: all memory for the reply is taken before the first store call.
+fn write_row<K: Keeper, T: Sink>(
     alloc: Global,
     old: &mut K,
     sink: &mut T,
     entity: NewEntity,
 ) -> Result<(), SessionFault>
-    requires { IsNew entity }
-    ensures { AnswersOne (K.state old.old) (T.output sink.old) entity result (K.state old.new) (T.output sink.new) }
+    requires { IsSound (asked.Entity entity) }
+    ensures { AnswersOne (K.state old.old) (T.output sink.old) (asked.Entity entity) result (K.state old.new) (T.output sink.new) }
 {
     let NewEntity { key, props } = entity;
-    let Ok(mut room) = room_for(alloc, &key, props.as_slice()) else {
+    let Ok(prepared) = prepare(alloc, &key, &props) else {
         return Err(SessionFault::NoMemory);
     };
     match insert(alloc, old, &key, props) {
-        Ok(Inserted::Created { props, tag }) => {
-            write_created(&mut room, &key, props.as_slice(), tag);
-            reply(sink, &room)
-        }
+        Ok(Inserted::Created { tag, .. }) => reply(sink, &created(prepared, tag)),
         Ok(Inserted::Exists) => reply(sink, EXISTS),
         Err(storing::StoreFault::Failed) => Err(SessionFault::StoreFault),
         Err(storing::StoreFault::NoMemory) => Err(SessionFault::NoMemory),
     }
 }
 
-/// Answers an insert that was read.
+/// Answers what is asked for.
+fn answer<K: Keeper, T: Sink>(
+    alloc: Global,
+    old: &mut K,
+    sink: &mut T,
+    asks: Asked,
+) -> Result<(), SessionFault>
+    requires { IsSound asks }
+    ensures { AnswersOne (K.state old.old) (T.output sink.old) asks result (K.state old.new) (T.output sink.new) }
+{
+    match asks {
+        Asked::Entity(entity) => write_row(alloc, old, sink, entity),
+        Asked::Refused(refusal) => reply(sink, refused(refusal).as_bytes()),
+    }
+}
+
+/// Answers an insert with this body.
 fn answer_turn<K: Keeper, T: Sink>(
     alloc: Global,
     old: &mut K,
     sink: &mut T,
-    entity: NewEntity,
+    body: &[u8],
 ) -> Result<Turn, SessionFault>
-    requires { IsNew entity }
-    ensures { AnswersTurn (K.state old.old) (T.output sink.old) entity result (K.state old.new) (T.output sink.new) }
+    ensures { AnswersTurn (K.state old.old) (T.output sink.old) body.now result (K.state old.new) (T.output sink.new) }
 {
-    match answer(alloc, old, sink, entity) {
+    let Ok(asks) = asked_by(alloc, body) else {
+        return Err(SessionFault::NoMemory);
+    };
+    match answer(alloc, old, sink, asks) {
         Ok(()) => Ok(Turn::Answered),
         Err(fault) => Err(fault),
     }
@@ -118,7 +132,7 @@ fn take_turn<K: Keeper, S: Source, T: Sink>(
         (ahead reader.new (S.input source.new)) (S.input source.new) (T.output sink.new) (K.state old.new) }
 {
     match read_request(alloc, reader, source) {
-        Ok(Incoming::Insert(entity)) => answer_turn(alloc, old, sink, entity),
+        Ok(Incoming::Insert(body)) => answer_turn(alloc, old, sink, body.as_slice()),
         Ok(Incoming::End) => Ok(Turn::Ended(SessionEnd::Input)),
         Ok(Incoming::Other) => refuse(sink),
         Err(reader::ReadFault::Failed) => Err(SessionFault::ReadFault),
@@ -127,7 +141,8 @@ fn take_turn<K: Keeper, S: Source, T: Sink>(
 }
 
 /// Serves a connection of plain inserts from the old store, to the end of its input, to the first
-/// request that is no plain insert, or to the first fault.
+/// request that is no plain insert, or to the first fault. An insert whose body is refused changes
+/// nothing, and the connection goes on.
 ///
 /// At most 2^64 - 1 requests are answered; the end of this count is told as want of memory.
 pub fn session<K: Keeper, S: Source, T: Sink>(

@@ -16,6 +16,8 @@ const EXISTS: &str =
 const UNSUPPORTED: &str =
     "HTTP/1.1 501 Not Implemented\r\nContent-Type: application/json\r\nContent-Length: 108\r\nConnection: close\r\n\r\n{\"odata.error\":{\"code\":\"NotImplemented\",\"message\":{\"lang\":\"en-US\",\"value\":\"The request is not supported.\"}}}";
 
+const CUT_OFF: &str = "POST /Orders HTTP/1.1\r\nContent-Length: 3\r\n\r\n{}";
+
 const USAGE: &str = "usage: mtable session|drill|serve [options]\n";
 
 /// What fails in a run, and how its input is cut.
@@ -75,6 +77,195 @@ fn answers_in_any_pieces(rt: HostRuntime) -> Result<(), Fail> {
     Ok(())
 }
 
+/// An insert with this body.
+fn insert_of(alloc: Global, body: &str) -> Result<String, Fail> {
+    let size = body.len();
+    Ok(format!(in alloc; "POST /orders HTTP/1.1\r\nContent-Length: {size}\r\n\r\n{body}")?)
+}
+
+/// The reply that refuses with this code and sentence.
+fn refusal_of(alloc: Global, code: &str, sentence: &str) -> Result<String, Fail> {
+    let body = format!(in alloc;
+        "{{\"odata.error\":{{\"code\":\"{code}\",\"message\":{{\"lang\":\"en-US\",\"value\":\"{sentence}\"}}}}}}"
+    )?;
+    let size = body.len();
+    Ok(format!(in alloc;
+        "HTTP/1.1 400 Bad Request\r\nContent-Type: application/json\r\nContent-Length: {size}\r\n\r\n{body}"
+    )?)
+}
+
+/// Whether a request is refused with this code and sentence, without a store call, and the next one
+/// is answered.
+fn is_refused(alloc: Global, request: &str, code: &str, sentence: &str) -> Result<bool, Fail> {
+    let input = format!(in alloc; "{request}{INSERT}")?;
+    let refusal = refusal_of(alloc, code, sentence)?;
+    let replies = format!(in alloc; "{refusal}{CREATED}")?;
+    let plan = Plan {
+        failing_old: 4,
+        ..PLAIN
+    };
+    let (status, written) = ran(alloc, plan, input.as_str())?;
+    Ok(status == 0 && written.as_slice() == replies.as_bytes())
+}
+
+const JSON: &str = "The body is not a JSON object.";
+
+const REFUSED: [(&str, &str, &str); 14] = [
+    ("", "InvalidJson", JSON),
+    ("{", "InvalidJson", JSON),
+    ("[1]", "InvalidJson", JSON),
+    (
+        "{\"PartitionKey\":\"p\",\"RowKey\":\"r\",}",
+        "InvalidJson",
+        JSON,
+    ),
+    (
+        "{\"PartitionKey\":\"p\"}",
+        "MissingKey",
+        "A key is missing.",
+    ),
+    (
+        "{\"PartitionKey\":null,\"RowKey\":\"r\"}",
+        "MissingKey",
+        "A key is missing.",
+    ),
+    (
+        "{\"PartitionKey\":\"p\",\"RowKey\":\"r\",\"D\":1.5}",
+        "Double",
+        "Edm.Double is not supported.",
+    ),
+    (
+        "{\"PartitionKey\":\"p\",\"RowKey\":\"r\",\"9a\":\"\"}",
+        "BadName",
+        "A property name is not valid.",
+    ),
+    (
+        "{\"N\":2147483648,\"PartitionKey\":\"p\",\"RowKey\":\"r\"}",
+        "BadType",
+        "A property value is not valid.",
+    ),
+    (
+        "{\"PartitionKey\":1,\"RowKey\":\"r\"}",
+        "BadType",
+        "A property value is not valid.",
+    ),
+    (
+        "{\"PartitionKey\":\"a/b\",\"RowKey\":\"r\"}",
+        "KeyCharacter",
+        "A key has a forbidden character.",
+    ),
+    (
+        "{\"PartitionKey\":\"p\",\"RowKey\":\"a\\u0001\"}",
+        "KeyCharacter",
+        "A key has a forbidden character.",
+    ),
+    (
+        "{\"PartitionKey\":\"a/b\",\"RowKey\":\"r\",\"D\":1.5}",
+        "Double",
+        "Edm.Double is not supported.",
+    ),
+    (
+        "{\"PartitionKey\":\"a/b\"}",
+        "MissingKey",
+        "A key is missing.",
+    ),
+];
+
+#[test]
+fn refusals(rt: HostRuntime) -> Result<(), Fail> {
+    let alloc = rt.alloc();
+    for (body, code, sentence) in REFUSED {
+        let request = insert_of(alloc, body)?;
+        assert!(rt;
+            is_refused(alloc, request.as_str(), code, sentence)?,
+            "{body}"
+        );
+    }
+    let bare = "POST /Orders HTTP/1.1\r\nHost: x\r\n\r\n";
+    assert!(rt; is_refused(alloc, bare, "InvalidJson", JSON)?);
+    Ok(())
+}
+
+/// A body with keys and properties of so many bytes.
+fn body_of(alloc: Global, key: usize, props: usize, text: usize) -> Result<String, Fail> {
+    let key = "k".repeat(alloc, key)?;
+    let text = "t".repeat(alloc, text)?;
+    let mut body = format!(in alloc; "{{\"PartitionKey\":\"{key}\",\"RowKey\":\"r\"")?;
+    for n in 0..props {
+        let member = format!(in alloc; ",\"p{n}\":\"{text}\"")?;
+        body.push_str(member.as_str())?;
+    }
+    body.push_str("}")?;
+    Ok(body)
+}
+
+#[test]
+fn limits(rt: HostRuntime) -> Result<(), Fail> {
+    let alloc = rt.alloc();
+    for (key, props, text, code, sentence) in [
+        (1025, 0, 0, "KeyTooLong", "A key is too long."),
+        (
+            1,
+            253,
+            0,
+            "TooManyProperties",
+            "The entity has too many properties.",
+        ),
+        (
+            1,
+            1,
+            65_537,
+            "PropertyTooLarge",
+            "A property value is too large.",
+        ),
+        (1, 16, 65_536, "EntityTooLarge", "The entity is too large."),
+    ] {
+        let body = body_of(alloc, key, props, text)?;
+        let request = insert_of(alloc, body.as_str())?;
+        assert!(rt;
+            is_refused(alloc, request.as_str(), code, sentence)?,
+            "{code}"
+        );
+    }
+    for (key, props, text) in [(1024, 0, 0), (1, 252, 0), (1, 1, 65_536)] {
+        let body = body_of(alloc, key, props, text)?;
+        let request = insert_of(alloc, body.as_str())?;
+        let (status, written) = ran(alloc, PLAIN, request.as_str())?;
+        assert!(rt; status == 0);
+        assert!(rt; written.as_slice().starts_with(b"HTTP/1.1 201 Created\r\n"));
+    }
+    Ok(())
+}
+
+#[test]
+fn entities(rt: HostRuntime) -> Result<(), Fail> {
+    let alloc = rt.alloc();
+    for (body, text) in [
+        (
+            "{\"N\":\"5\",\"N@odata.type\":\"Edm.Int64\",\"PartitionKey\":\"p\",\"RowKey\":\"r\"}",
+            "{\"N\":\"5\",\"N@odata.type\":\"Edm.Int64\",\"PartitionKey\":\"p\",\"RowKey\":\"r\",\"odata.etag\":\"W/\\\"0.2\\\"\"}",
+        ),
+        (
+            " { \"RowKey\" : \"r\" ,\t\"PartitionKey\":\"\\u0070\",\r\n\"A\":\"y\", \"A\":\"x\" } ",
+            "{\"A\":\"x\",\"PartitionKey\":\"p\",\"RowKey\":\"r\",\"odata.etag\":\"W/\\\"0.2\\\"\"}",
+        ),
+        (
+            "{\"PartitionKey\":\"p\",\"RowKey\":\"r\",\"_z\":true,\"b\":-1,\"Q\":\"a\\\"b\",\"Timestamp\":\"x\",\"n\":null}",
+            "{\"PartitionKey\":\"p\",\"Q\":\"a\\\"b\",\"RowKey\":\"r\",\"_z\":true,\"b\":-1,\"odata.etag\":\"W/\\\"0.2\\\"\"}",
+        ),
+    ] {
+        let request = insert_of(alloc, body)?;
+        let size = text.len();
+        let reply = format!(in alloc;
+            "HTTP/1.1 201 Created\r\nContent-Type: application/json\r\nETag: W/\"0.2\"\r\nContent-Length: {size}\r\n\r\n{text}"
+        )?;
+        let (status, written) = ran(alloc, PLAIN, request.as_str())?;
+        assert!(rt; status == 0);
+        assert!(rt; written.as_slice() == reply.as_bytes(), "{body}");
+    }
+    Ok(())
+}
+
 #[test]
 fn statuses(rt: HostRuntime) -> Result<(), Fail> {
     let alloc = rt.alloc();
@@ -86,6 +277,7 @@ fn statuses(rt: HostRuntime) -> Result<(), Fail> {
         (PLAIN, INSERT, 0, CREATED),
         (PLAIN, get, 7, UNSUPPORTED),
         (PLAIN, then_get.as_str(), 7, created_then.as_str()),
+        (PLAIN, CUT_OFF, 7, UNSUPPORTED),
         (
             Plan {
                 word: "--help",

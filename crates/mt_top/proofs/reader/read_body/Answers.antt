@@ -1,10 +1,10 @@
 use Rattle.mt_top.proofs.FillLaws.{body_taken, body_short, body_failed}
 use Rattle.mt_top.proofs.reader.read_body.Goals as goal
 
-pub returns-in-Ok-true : goal.returns-in-Ok-true
-returns-in-Ok-true g c =
-    body_taken c.args.reader.now (g.S.Source.input c.args.source.now) c.wait_for.new.reader (g.S.Source.input c.wait_for.new.source) c.args.head c.args.body c.take_insert.result c.take_insert.new.reader c.requires.opened
-    (rw c.in-Ok-true.field-0-test at c.in-Ok-true.ensures) c.take_insert.ensures
+pub returns-in-Ok : goal.returns-in-Ok
+returns-in-Ok g c =
+    body_taken c.args.reader.now (g.S.Source.input c.args.source.now) c.wait_for.new.reader (g.S.Source.input c.wait_for.new.source) c.args.head c.args.body c.in-Ok.bytes c.take_body.new.reader c.requires.opened
+    (rw c.in-Ok-true.field-0-test at c.in-Ok-true.ensures) c.in-Ok.ensures
 
 pub returns-in-Ok-false : goal.returns-in-Ok-false
 returns-in-Ok-false g c =

@@ -1,12 +1,13 @@
-use Rattle.std.proofs.Common.{◌≡◌, ap, ◌∙◌, List}
-use Rattle.mt_model.specs.declared.value.Prop.{Prop}
-use Rattle.mt_top.specs.Replies.{created_reply}
-use Rattle.mt_top.proofs.SessionLaws.{created_answer}
+use Rattle.std.proofs.Common.{refl, ◌∙◌, arith}
+use Rattle.mt_top.specs.declared.asks.Asked.TheVariants.{Refused as Refusing}
+use Rattle.mt_top.specs.Session.{Refused}
+use Rattle.mt_top.proofs.RefusalLaws.{refused_is}
+use Rattle.mt_top.proofs.SessionLaws.{answered}
 use Rattle.mt_top.proofs.session.answer.Goals as goal
 
-pub returns-in-Ok-Created : goal.returns-in-Ok-Created
-returns-in-Ok-Created g c =
-    let shows = rw c.in-Ok-Created.field-0-is at c.in-Ok-Created.ensures.shows in
-    let kept : ◌≡◌ {A = List Prop} c.in-Ok-Created.props c.args.entity.props = shows.0 in
-    created_answer (g.K.Keeper.state c.args.old.now) _ (g.T.Sink.output c.args.sink.now) _ c.args.entity c.in-Ok-Created.tag _ _ c.insert.ensures.number c.insert.ensures.faults shows.1
-    (c.deref.ensures.value ∙ c.write_created.ensures ∙ ap (λ ps. created_reply c.args.entity.key ps c.in-Ok-Created.tag) (c.as_slice-in-Ok-Created.ensures.value ∙ kept)) c.reply.ensures
+pub returns-in-Refused : goal.returns-in-Refused
+returns-in-Refused g c =
+    let k = g.K.Keeper.state c.args.old.now in
+    let r = c.in-Refused.refusal in
+    rw c.in-Refused.is (answered k k (g.T.Sink.output c.args.sink.now) (g.T.Sink.output c.reply.new.sink) (Refusing r) (Refused r) c.as_bytes.result.now c.reply.result refl (omega arith) (refl, refl)
+    (refl, c.as_bytes.ensures.value ∙ c.refused.ensures ∙ refused_is r) c.reply.ensures)
