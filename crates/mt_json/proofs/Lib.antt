@@ -1,7 +1,8 @@
 pub mod ValueLaws
 pub mod MemberLaws
 pub mod WrittenLaws
-pub mod DraftLaws
+pub mod RoomLaws
+pub mod MembersLaws
 pub mod TagLaws
 pub mod RisingLaws
 pub mod BackLaws
