@@ -10,7 +10,7 @@ use Rattle.mt_model.specs.declared.value.Value.TheVariants as value
 use Rattle.mt_model.specs.declared.value.Prop.{Prop}
 use Rattle.mt_json.specs.declared.kind.Kind.{Kind}
 use Rattle.mt_json.specs.declared.kind.Kind.TheVariants.{Untyped, String, Boolean, Int32, Int64, Guid, DateTime, Binary, Double, Unknown}
-use Rattle.mt_json.specs.declared.read.KeyUse.TheVariants.{InBody}
+use Rattle.mt_json.specs.declared.read.KeyUse.{KeyUse}
 use Rattle.mt_json.specs.declared.read.JsonFault.{JsonFault}
 use Rattle.mt_json.specs.declared.read.JsonFault.TheVariants.{BadType}
 use Rattle.mt_json.specs.Value.{IsValue, HasNoValue, IsInt64, IsMoment, int64_of}
@@ -62,15 +62,15 @@ prop_same : (p q : Prop) → p.name ≡ q.name → p.value ≡ q.value → p ≡
 unfolding prop_of
 prop_same p q n v = ap₂ prop_of n v
 
-pub gives_same : (kind : Kind) (name : List ℕ) (d : Data) (r : Result (Option Prop) JsonFault) (p : Option Prop)
-    → Gives InBody kind name d r → Gives InBody kind name d (Ok p) → r ≡ Ok p
-gives_same kind name d (Ok None) None h k = refl
-gives_same kind name d (Ok None) (Some q) h k = absurd (true≢false (sym h ∙ k.0))
-gives_same kind name d (Ok (Some p)) None h k = absurd (true≢false (sym k ∙ h.0))
-gives_same kind name d (Ok (Some p)) (Some q) h k =
+pub gives_same : (keys : KeyUse) (kind : Kind) (name : List ℕ) (d : Data) (r : Result (Option Prop) JsonFault) (p : Option Prop)
+    → Gives keys kind name d r → Gives keys kind name d (Ok p) → r ≡ Ok p
+gives_same keys kind name d (Ok None) None h k = refl
+gives_same keys kind name d (Ok None) (Some q) h k = absurd (true≢false (sym h ∙ k.0))
+gives_same keys kind name d (Ok (Some p)) None h k = absurd (true≢false (sym k ∙ h.0))
+gives_same keys kind name d (Ok (Some p)) (Some q) h k =
     ap (λ x. Ok (Some x)) (prop_same p q (h.2 ∙ sym k.2) (value_same kind d p.value q.value h.3 k.3))
-gives_same kind name d (Err f) None h k = absurd (true≢false (sym k ∙ h.0))
-gives_same kind name d (Err f) (Some q) h k =
+gives_same keys kind name d (Err f) None h k = absurd (true≢false (sym k ∙ h.0))
+gives_same keys kind name d (Err f) (Some q) h k =
     let none : HasNoValue kind d × (f ≡ BadType name) =
     subst (λ o. MatchOption o (HasNoValue kind d × (f ≡ BadType name)) (λ g. f ≡ g)) k.1 h.1 in
     absurd (none.0 q.value k.3)

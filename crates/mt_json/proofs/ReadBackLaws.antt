@@ -21,12 +21,13 @@ use Rattle.mt_model.proofs.Listed.{any_from_position}
 use Rattle.mt_json.specs.declared.read.Body.{Body}
 use Rattle.mt_json.specs.declared.read.JsonFault.{JsonFault}
 use Rattle.mt_json.specs.declared.read.JsonFault.TheVariants as fault
-use Rattle.mt_json.specs.declared.read.KeyUse.TheVariants.{InBody}
+use Rattle.mt_json.specs.declared.read.KeyUse.{KeyUse}
+use Rattle.mt_json.specs.declared.read.KeyUse.TheVariants.{InBody, InTarget}
 use Rattle.mt_json.specs.declared.write.Level.{Level}
 use Rattle.mt_json.specs.declared.write.Level.TheVariants as level
 use Rattle.mt_json.specs.Kind.{kind_of, type_key}
-use Rattle.mt_json.specs.Body.{IsBody, Builds, MembersGive, GivesBody, missing_key, key_name}
-use Rattle.mt_json.specs.Written.{AddsProp, AddProps, put_keys, put_system, IsNamed, AreNamed, IsBodyOf, IsReadAs, IsRoundTrip, ReadsBack}
+use Rattle.mt_json.specs.Body.{IsBody, Builds, MembersGive, GivesBody, missing_key, key_name, gives_nothing, key_text, is_key}
+use Rattle.mt_json.specs.Written.{AddsProp, AddProps, put_keys, put_system, IsNamed, AreNamed, IsBodyOf, IsReadAs, IsRoundTrip, ReadsBack, own_key}
 use Rattle.mt_json.proofs.RisingLaws.{no_repeat}
 use Rattle.mt_json.proofs.ReadBackFind.{get_other, get_put, rising_put}
 use Rattle.mt_json.proofs.ReadBackNames.{type_apart}
@@ -94,29 +95,36 @@ rk_found e ms =
     get_other (codes "RowKey") (codes "odata.etag") (string (tag_text e.tag)) (put (codes "RowKey") (string e.key.rk) pk) (λ h. true≢false (sym (ap is_eq h)))
     ∙ get_put (codes "RowKey") (string e.key.rk) pk
 
-holds_key : (top : Data) (part : KeyPart) (text : List ℕ) (ms : Members) (ps : List Prop) → Holds top ms ps → Holds top (put (key_name part) (string text) ms) ps
-holds_key top Partition text ms ps h = record {
-  rising = rising_put (key_name Partition) (string text) ms h.rising;
-  gives = put_nothing top (key_name Partition) (string text) ms ps (inr refl) refl h.gives;
-}
-holds_key top Row text ms ps h = record {
-  rising = rising_put (key_name Row) (string text) ms h.rising;
-  gives = put_nothing top (key_name Row) (string text) ms ps (inr refl) refl h.gives;
+key_given : (keys : KeyUse) (part : KeyPart) (text : List ℕ) → gives_nothing keys (key_name part) (string text) ≡ true
+key_given InBody Partition text = refl
+key_given InBody Row text = refl
+key_given InTarget Partition text = refl
+key_given InTarget Row text = refl
+
+never_given : (part : KeyPart) → is_key (key_name part) ≡ true
+never_given Partition = refl
+never_given Row = refl
+
+holds_key : (keys : KeyUse) (top : Data) (part : KeyPart) (text : List ℕ) (ms : Members) (ps : List Prop) → Holds keys top ms ps
+    → Holds keys top (put (key_name part) (string text) ms) ps
+holds_key keys top part text ms ps h = record {
+  rising = rising_put (key_name part) (string text) ms h.rising;
+  gives = put_nothing keys top (key_name part) (string text) ms ps (inr (never_given part)) (key_given keys part text) h.gives;
 }
 
-no_members_rise : (top : Data) → Holds top no_members []
+no_members_rise : (keys : KeyUse) (top : Data) → Holds keys top no_members []
 unfolding IsStrictlySortedBy
-no_members_rise top = record { rising = tt; gives = refl }
+no_members_rise keys top = record { rising = tt; gives = refl }
 
-holds_object : (e : Entity) (ms : Members) (ps : List Prop) → AllByRecursion IsSeen ps → RisingNames ps → AddProps level.Minimal None ps no_members ms
-    → Holds (object (members_of e ms)) (members_of e ms) ps
-holds_object e ms ps seen up adds =
+holds_object : (keys : KeyUse) (e : Entity) (ms : Members) (ps : List Prop) → AllByRecursion IsSeen ps → RisingNames ps
+    → AddProps level.Minimal None ps no_members ms → Holds keys (object (members_of e ms)) (members_of e ms) ps
+holds_object keys e ms ps seen up adds =
     let top = object (members_of e ms) in
     let kinds = has_kinds e ms ps (has_types ps no_members ms seen up adds (all_fresh ps)) in
-    let given = holds_props top [] ps no_members ms seen kinds up adds (no_members_rise top) in
-    let pk = holds_key top Partition e.key.pk ms ps given in
-    let rk = holds_key top Row e.key.rk (put (key_name Partition) (string e.key.pk) ms) ps pk in
-    holds_ignored top (codes "odata.etag") (string (tag_text e.tag)) (put_keys None e.key ms) ps refl rk
+    let given = holds_props keys top [] ps no_members ms seen kinds up adds (no_members_rise keys top) in
+    let pk = holds_key keys top Partition e.key.pk ms ps given in
+    let rk = holds_key keys top Row e.key.rk (put (key_name Partition) (string e.key.pk) ms) ps pk in
+    holds_ignored keys top (codes "odata.etag") (string (tag_text e.tag)) (put_keys None e.key ms) ps refl rk
 
 -- ---- properties that keep the rules have no fault
 
@@ -137,49 +145,59 @@ no_props_fault ps h =
 
 -- ---- the whole
 
-body_is : (e : Entity) (ms : Members) (ps : List Prop) (body : Body) → ps ≡ seen_list e.props → IsProps ps
-    → IsBody InBody (object (members_of e ms)) ps body → IsBodyOf e body
-body_is e ms ps body is valid h = record {
-  pk = h.pk ∙ ap (option_and_then as_str) (pk_found e ms);
-  rk = h.rk ∙ ap (option_and_then as_str) (rk_found e ms);
-  props = sym (one_order ps body.props valid.rising h.kept.rising h.same) ∙ is;
+own_pk : (keys : KeyUse) (e : Entity) (ms : Members) → key_text keys (object (members_of e ms)) Partition ≡ own_key keys e.key.pk
+own_pk InBody e ms = ap (option_and_then as_str) (pk_found e ms)
+own_pk InTarget e ms = refl
+
+own_rk : (keys : KeyUse) (e : Entity) (ms : Members) → key_text keys (object (members_of e ms)) Row ≡ own_key keys e.key.rk
+own_rk InBody e ms = ap (option_and_then as_str) (rk_found e ms)
+own_rk InTarget e ms = refl
+
+body_is : (keys : KeyUse) (e : Entity) (ms : Members) (body : Body) → IsProps (seen_list e.props)
+    → IsBody keys (object (members_of e ms)) (seen_list e.props) body → IsBodyOf keys e body
+body_is keys e ms body valid h = record {
+  pk = h.pk ∙ own_pk keys e ms;
+  rk = h.rk ∙ own_rk keys e ms;
+  props = sym (one_order (seen_list e.props) body.props valid.rising h.kept.rising h.same);
 }
 
 ok_and : (r : Result Body JsonFault) (P Q : Body → Type 0) → ((b : Body) → P b → Q b) → IsOkAnd r P → IsOkAnd r Q
 ok_and (Ok b) P Q f h = f b h
 ok_and (Err e) P Q f h = absurd h
 
-members_give : (e : Entity) (ms : Members) (r : Result Body JsonFault) → AreNamed e.props → IsProps e.props
-    → AddProps level.Minimal None e.props no_members ms → MembersGive InBody (object (members_of e ms)) (members_of e ms) r → IsOkAnd r (IsBodyOf e)
-members_give e ms r named valid adds (given, all, rest) =
+members_give : (keys : KeyUse) (e : Entity) (ms : Members) (r : Result Body JsonFault) → AreNamed e.props → IsProps e.props
+    → AddProps level.Minimal None e.props no_members ms → MembersGive keys (object (members_of e ms)) (members_of e ms) r
+    → IsOkAnd r (IsBodyOf keys e)
+members_give keys e ms r named valid adds (given, all, rest) =
     let ps = seen_list e.props in
     let top = object (members_of e ms) in
     let kept = IsProps-visible e.props valid in
-    let holds = holds_object e ms ps (all_seen e.props named) kept.rising (adds_visible e.props no_members ms adds) in
-    let same : given ≡ Ok ps = collected top [] (members_of e ms) given ps all holds.gives in
-    let builds : Builds InBody top ps r = subst (λ g. MatchResult g (λ ps. Builds InBody top ps r) (λ f. r ≡ Err f)) same rest in
-    let built : IsOkAnd r (IsBody InBody top ps) =
-    subst (λ o. MatchOption o (IsOkAnd r (IsBody InBody top ps)) (λ f. r ≡ Err (fault.Props f))) (no_props_fault ps kept) builds in
-    ok_and r (IsBody InBody top ps) (IsBodyOf e) (λ body h. body_is e ms ps body refl kept h) built
+    let holds = holds_object keys e ms ps (all_seen e.props named) kept.rising (adds_visible e.props no_members ms adds) in
+    let same : given ≡ Ok ps = collected keys top [] (members_of e ms) given ps all holds.gives in
+    let builds : Builds keys top ps r = subst (λ g. MatchResult g (λ ps. Builds keys top ps r) (λ f. r ≡ Err f)) same rest in
+    let built : IsOkAnd r (IsBody keys top ps) =
+    subst (λ o. MatchOption o (IsOkAnd r (IsBody keys top ps)) (λ f. r ≡ Err (fault.Props f))) (no_props_fault ps kept) builds in
+    ok_and r (IsBody keys top ps) (IsBodyOf keys e) (λ body h. body_is keys e ms body kept h) built
 
-none_missing : (e : Entity) (ms : Members) → missing_key InBody (object (members_of e ms)) ≡ None
-none_missing e ms = rw (pk_found e ms, rk_found e ms) refl
+none_missing : (keys : KeyUse) (e : Entity) (ms : Members) → missing_key keys (object (members_of e ms)) ≡ None
+none_missing InBody e ms = rw (pk_found e ms, rk_found e ms) refl
+none_missing InTarget e ms = refl
 
-object_gives : (e : Entity) (ms : Members) (r : Result Body JsonFault) → AreNamed e.props → IsProps e.props
-    → AddProps level.Minimal None e.props no_members ms → GivesBody InBody (object (members_of e ms)) r → IsOkAnd r (IsBodyOf e)
-object_gives e ms r named valid adds h =
+object_gives : (keys : KeyUse) (e : Entity) (ms : Members) (r : Result Body JsonFault) → AreNamed e.props → IsProps e.props
+    → AddProps level.Minimal None e.props no_members ms → GivesBody keys (object (members_of e ms)) r → IsOkAnd r (IsBodyOf keys e)
+object_gives keys e ms r named valid adds h =
     let top = object (members_of e ms) in
-    members_give e ms r named valid adds
-    (subst (λ o. MatchOption o (MembersGive InBody top (members_of e ms) r) (λ part. r ≡ Err (fault.MissingKey part))) (none_missing e ms) h)
+    members_give keys e ms r named valid adds
+    (subst (λ o. MatchOption o (MembersGive keys top (members_of e ms) r) (λ part. r ≡ Err (fault.MissingKey part))) (none_missing keys e ms) h)
 
 same_data : (o : Option Data) (d f : Data) → o ≡ Some d → o ≡ Some f → f ≡ d
 same_data o d f h k = ap (λ o. unwrap_or o d) (sym k ∙ h)
 
 reads_back : (e : Entity) (text : List ℕ) → AreNamed e.props → IsProps e.props → IsReadAs e level.Minimal None text → ReadsBack e text
-reads_back e text named valid (d, (ms, adds, is), reads) r (inl (none, fails)) = absurd (none d reads)
-reads_back e text named valid (d, (ms, adds, is), reads) r (inr (f, others, gives)) =
+reads_back e text named valid (d, (ms, adds, is), reads) keys r (inl (none, fails)) = absurd (none d reads)
+reads_back e text named valid (d, (ms, adds, is), reads) keys r (inr (f, others, gives)) =
     let same : f ≡ object (members_of e ms) = same_data (read text) d f reads.1 others.1 ∙ is in
-    object_gives e ms r named valid adds (subst (λ d. GivesBody InBody d r) same gives)
+    object_gives keys e ms r named valid adds (subst (λ d. GivesBody keys d r) same gives)
 
 pub round_trip : (e : Entity) (l : Level) (chosen : Option (List (List ℕ))) (text : List ℕ) → AreNamed e.props → IsProps e.props
     → IsReadAs e l chosen text → IsRoundTrip e l chosen text

@@ -14,11 +14,11 @@ use Rattle.mt_model.specs.declared.value.Value.TheVariants.{Str, Binary, Bool as
 use Rattle.mt_json.specs.declared.kind.Kind.{Kind}
 use Rattle.mt_json.specs.declared.read.JsonFault.{JsonFault}
 use Rattle.mt_json.specs.declared.read.JsonFault.TheVariants as fault
-use Rattle.mt_json.specs.declared.read.KeyUse.TheVariants.{InBody}
+use Rattle.mt_json.specs.declared.read.KeyUse.{KeyUse}
 use Rattle.mt_json.specs.declared.write.Level.TheVariants as level
 use Rattle.mt_json.specs.Kind.{kind_in, kind_of, is_double, type_key}
 use Rattle.mt_json.specs.Value.{IsValue}
-use Rattle.mt_json.specs.Body.{Gives, is_null, is_ignored, is_key}
+use Rattle.mt_json.specs.Body.{Gives, is_null, is_ignored, is_key, is_in_target}
 use Rattle.mt_json.specs.Written.{type_name, Shows, IsReadBack, put_type, AddsProp, AddProps}
 use Rattle.mt_json.proofs.RisingLaws.{cmp, member_names, Rising, IsBelow, at_seam}
 use Rattle.mt_json.proofs.ReadBackFind.{Apart, apart_less, get_other, get_put, rising_put}
@@ -55,20 +55,20 @@ not_double (Int64 z) d e = ap (is_double (own_kind (Int64 z))) e
 not_double (Guid bytes) d e = ap (is_double (own_kind (Guid bytes))) e
 not_double (Moment ticks) d h = ap (is_double (own_kind (Moment ticks))) h.1
 
-some_given : (null ignored key text : Bool) → null ≡ false → ignored ≡ false → key ≡ false → (null || ignored || (key && (false || text))) ≡ false
-some_given null ignored key text a b c = rw (a, b, c) refl
+some_given : (null ignored key target text : Bool) → null ≡ false → ignored ≡ false → key ≡ false → (null || ignored || (key && (target || text))) ≡ false
+some_given null ignored key target text a b c = rw (a, b, c) refl
 
 no_fault : (key double plain : Bool) (x y z : JsonFault) → key ≡ false → double ≡ false → plain ≡ true
     → cond key (Some x) (cond double (Some y) (cond plain None (Some z))) ≡ None
 no_fault key double plain x y z a b c = rw (a, b, c) refl
 
 -- what is written for a property gives the property
-gives_prop : (top : Data) (p : Prop) (d : Data) → IsSeen p → kind_in top p.name ≡ own_kind p.value → Shows p.value d → IsReadBack p.value d
-    → Gives InBody (kind_in top p.name) p.name d (Ok (Some p))
-gives_prop top p d seen kind shows back =
+gives_prop : (keys : KeyUse) (top : Data) (p : Prop) (d : Data) → IsSeen p → kind_in top p.name ≡ own_kind p.value → Shows p.value d → IsReadBack p.value d
+    → Gives keys (kind_in top p.name) p.name d (Ok (Some p))
+gives_prop keys top p d seen kind shows back =
     let key = plain_key p.name seen.1 in
     let double : is_double (kind_in top p.name) d ≡ false = ap (λ k. is_double k d) kind ∙ not_double p.value d shows in (
-      some_given (is_null d) (is_ignored p.name) (is_key p.name) (is_some (as_str d)) (not_null p.value d shows) (plain_ignored p.name seen.1) key,
+      some_given (is_null d) (is_ignored p.name) (is_key p.name) (is_in_target keys) (is_some (as_str d)) (not_null p.value d shows) (plain_ignored p.name seen.1) key,
       no_fault (is_key p.name) (is_double (kind_in top p.name) d) (is_plain_name p.name) (fault.BadType p.name) (fault.Double p.name) (fault.BadName p.name) key double seen.1.1,
       refl,
       subst (λ k. IsValue k d p.value) (sym kind) back,
@@ -77,9 +77,9 @@ gives_prop top p d seen kind shows back =
 -- ---- one property
 
 -- these members rise, and give the properties
-pub record Holds (top : Data) (ms : Members) (ps : List Prop) : Type 0 where
+pub record Holds (keys : KeyUse) (top : Data) (ms : Members) (ps : List Prop) : Type 0 where
   pub rising : Rising (member_names ms)
-  pub gives : Collects top ms ps
+  pub gives : Collects keys top ms ps
 
 or_true : (b c : Bool) → b ≡ true → (b || c) ≡ true
 or_true b c h = rw h refl
@@ -88,26 +88,26 @@ ignored_given : (null ignored key : Bool) → ignored ≡ true → (null || igno
 ignored_given true ignored key h = refl
 ignored_given false ignored key h = rw h refl
 
-pub holds_ignored : (top : Data) (k : List ℕ) (d : Data) (ms : Members) (ps : List Prop) → is_ignored k ≡ true → Holds top ms ps → Holds top (put k d ms) ps
-holds_ignored top k d ms ps h holds = record {
+pub holds_ignored : (keys : KeyUse) (top : Data) (k : List ℕ) (d : Data) (ms : Members) (ps : List Prop) → is_ignored k ≡ true → Holds keys top ms ps → Holds keys top (put k d ms) ps
+holds_ignored keys top k d ms ps h holds = record {
   rising = rising_put k d ms holds.rising;
-  gives = put_nothing top k d ms ps (inl h) (ignored_given (is_null d) (is_ignored k) (is_key k && (false || is_some (as_str d))) h) holds.gives;
+  gives = put_nothing keys top k d ms ps (inl h) (ignored_given (is_null d) (is_ignored k) (is_key k && (is_in_target keys || is_some (as_str d))) h) holds.gives;
 }
 
-holds_type : (top : Data) (name : List ℕ) (type : Option (List ℕ)) (ms : Members) (ps : List Prop) → Holds top ms ps
-    → Holds top (put_type level.Minimal name type ms) ps
-holds_type top name None ms ps holds = holds
-holds_type top name (Some type) ms ps holds = holds_ignored top (type_key name) (string type) ms ps (type_ignored name) holds
+holds_type : (keys : KeyUse) (top : Data) (name : List ℕ) (type : Option (List ℕ)) (ms : Members) (ps : List Prop) → Holds keys top ms ps
+    → Holds keys top (put_type level.Minimal name type ms) ps
+holds_type keys top name None ms ps holds = holds
+holds_type keys top name (Some type) ms ps holds = holds_ignored keys top (type_key name) (string type) ms ps (type_ignored name) holds
 
-holds_prop : (top : Data) (p : Prop) (old new : Members) (ps : List Prop) → IsSeen p → kind_in top p.name ≡ own_kind p.value → AreBelow ps p.name
-    → AddsProp level.Minimal None p old new → Holds top old ps → Holds top new (ps ++ p ∷ [])
-holds_prop top p old new ps seen kind below (inl h) holds = absurd (true≢false (sym (ap (λ b. b && true) seen.0) ∙ h.0))
-holds_prop top p old new ps seen kind below (inr (shown, (d, shows, back, is))) holds =
-    let one : Holds top (put p.name d old) (ps ++ p ∷ []) = record {
+holds_prop : (keys : KeyUse) (top : Data) (p : Prop) (old new : Members) (ps : List Prop) → IsSeen p → kind_in top p.name ≡ own_kind p.value → AreBelow ps p.name
+    → AddsProp level.Minimal None p old new → Holds keys top old ps → Holds keys top new (ps ++ p ∷ [])
+holds_prop keys top p old new ps seen kind below (inl h) holds = absurd (true≢false (sym (ap (λ b. b && true) seen.0) ∙ h.0))
+holds_prop keys top p old new ps seen kind below (inr (shown, (d, shows, back, is))) holds =
+    let one : Holds keys top (put p.name d old) (ps ++ p ∷ []) = record {
       rising = rising_put p.name d old holds.rising;
-      gives = put_prop top p d old ps (gives_prop top p d seen kind shows back) holds.rising below holds.gives;
+      gives = put_prop keys top p d old ps (gives_prop keys top p d seen kind shows back) holds.rising below holds.gives;
     } in
-    subst (λ ms. Holds top ms (ps ++ p ∷ [])) (sym is) (holds_type top p.name (type_name p.value) (put p.name d old) (ps ++ p ∷ []) one)
+    subst (λ ms. Holds keys top ms (ps ++ p ∷ [])) (sym is) (holds_type keys top p.name (type_name p.value) (put p.name d old) (ps ++ p ∷ []) one)
 
 -- ---- all properties
 
@@ -120,15 +120,15 @@ all_below (a ∷ acc) p ps up = (at_seam a.name acc p ps up.0, all_below acc p p
 abbrev pub HasKinds : Data → List Prop → Type 0
 HasKinds top ps = AllByRecursion (λ p. kind_in top p.name ≡ own_kind p.value) ps
 
-pub holds_props : (top : Data) (acc ps : List Prop) (old new : Members) → AllByRecursion IsSeen ps → HasKinds top ps → RisingNames (acc ++ ps)
-    → AddProps level.Minimal None ps old new → Holds top old acc → Holds top new (acc ++ ps)
-holds_props top acc [] old new seen kinds up is holds =
-    subst (λ ms. Holds top ms (acc ++ [])) (sym is) (subst (λ ps. Holds top old ps) (sym (append-nil acc)) holds)
-holds_props top acc (p ∷ ps) old new seen kinds up (between, first, rest) holds =
+pub holds_props : (keys : KeyUse) (top : Data) (acc ps : List Prop) (old new : Members) → AllByRecursion IsSeen ps → HasKinds top ps → RisingNames (acc ++ ps)
+    → AddProps level.Minimal None ps old new → Holds keys top old acc → Holds keys top new (acc ++ ps)
+holds_props keys top acc [] old new seen kinds up is holds =
+    subst (λ ms. Holds keys top ms (acc ++ [])) (sym is) (subst (λ ps. Holds keys top old ps) (sym (append-nil acc)) holds)
+holds_props keys top acc (p ∷ ps) old new seen kinds up (between, first, rest) holds =
     let whole = append_assoc acc (p ∷ []) ps in
-    let one = holds_prop top p old between acc seen.0 kinds.0 (all_below acc p ps up) first holds in
-    subst (λ l. Holds top new l) whole
-    (holds_props top (acc ++ p ∷ []) ps between new seen.1 kinds.1 (subst RisingNames (sym whole) up) rest one)
+    let one = holds_prop keys top p old between acc seen.0 kinds.0 (all_below acc p ps up) first holds in
+    subst (λ l. Holds keys top new l) whole
+    (holds_props keys top (acc ++ p ∷ []) ps between new seen.1 kinds.1 (subst RisingNames (sym whole) up) rest one)
 
 -- ---- their types
 

@@ -24,7 +24,8 @@ use Rattle.mt_json.specs.Kind.{kind_of, type_key}
 use Rattle.mt_json.specs.Value.{IsValue}
 use Rattle.mt_json.specs.declared.read.Body.{Body}
 use Rattle.mt_json.specs.declared.read.JsonFault.{JsonFault}
-use Rattle.mt_json.specs.declared.read.KeyUse.TheVariants.{InBody}
+use Rattle.mt_json.specs.declared.read.KeyUse.{KeyUse}
+use Rattle.mt_json.specs.declared.read.KeyUse.TheVariants.{InBody, InTarget}
 use Rattle.mt_json.specs.Body.{Reads, ReadsAs}
 
 -- the name of a type that the value alone does not show
@@ -121,15 +122,20 @@ abbrev pub AreNamed : List Prop → Type 0
 AreNamed [] = ⊤
 AreNamed (p ∷ ps) = IsNamed p × AreNamed ps
 
--- the body has the entity's keys and its visible properties, and no others
-pub record IsBodyOf (e : Entity) (body : Body) : Type 0 where
-  pub pk : body.pk ≡ Some e.key.pk
-  pub rk : body.rk ≡ Some e.key.rk
+-- the text of a key, where the body is to have it
+abbrev pub own_key : KeyUse → List ℕ → Option (List ℕ)
+own_key InBody text = Some text
+own_key InTarget text = None
+
+-- the body has the entity's keys, unless they stand in the target, and its visible properties, and no others
+pub record IsBodyOf (keys : KeyUse) (e : Entity) (body : Body) : Type 0 where
+  pub pk : body.pk ≡ own_key keys e.key.pk
+  pub rk : body.rk ≡ own_key keys e.key.rk
   pub props : body.props ≡ filter is_visible e.props
 
 -- whatever reading the text as a body gives, it is the entity's keys and visible properties
 abbrev pub ReadsBack : Entity → List ℕ → Type 0
-ReadsBack e text = (r : Result Body JsonFault) → ReadsAs InBody text r → IsOkAnd r (IsBodyOf e)
+ReadsBack e text = (keys : KeyUse) (r : Result Body JsonFault) → ReadsAs keys text r → IsOkAnd r (IsBodyOf keys e)
 
 -- with type keys, and where no names were chosen, the text reads back as the entity
 abbrev pub IsRoundTrip : Entity → Level → Option (List (List ℕ)) → List ℕ → Type 0

@@ -239,7 +239,8 @@ fn object_of(
 ///
 /// Edm.Int64 is written as a decimal string, Edm.Guid in lower case, Edm.DateTime with seven
 /// decimals, and Edm.Binary in standard base64 with padding (RFC 4648). Strings are escaped as
-/// `serde_json` does. The one error is want of memory.
+/// `serde_json` does. At `Level::Minimal` and without `chosen`, `read_entity` reads the text as the
+/// entity's key and visible properties. The one error is want of memory.
 pub fn write_entity(
     alloc: Global,
     entity: &Entity,
@@ -249,7 +250,7 @@ pub fn write_entity(
     ensures written { IfOk result (IsWritten entity.now level (option_map (λ v. v.now.items) chosen.entry)) }
     // so `serde_json` reads the text as the object that was written
     ensures reads_back { IfOk result (IsReadAs entity.now level (option_map (λ v. v.now.items) chosen.entry)) }
-    // and `read_entity` as the entity's own keys and properties
+    // and `read_entity` as the entity's keys and visible properties
     ensures round_trip { IfOk result (IsRoundTrip entity.now level (option_map (λ v. v.now.items) chosen.entry)) }
 {
     let object = object_of(alloc, entity, level, chosen)?;
