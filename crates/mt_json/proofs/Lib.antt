@@ -7,3 +7,10 @@ pub mod TagLaws
 pub mod RisingLaws
 pub mod BackLaws
 pub mod GuidLaws
+pub mod ReadBackFind
+pub mod ReadBackNames
+pub mod ReadBackGives
+pub mod ReadBackMembers
+pub mod ReadBackProps
+pub mod ReadBackOrder
+pub mod ReadBackLaws
