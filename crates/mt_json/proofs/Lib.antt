@@ -1,8 +1,16 @@
 pub mod ValueLaws
 pub mod MemberLaws
 pub mod WrittenLaws
-pub mod DraftLaws
+pub mod RoomLaws
+pub mod MembersLaws
 pub mod TagLaws
 pub mod RisingLaws
 pub mod BackLaws
 pub mod GuidLaws
+pub mod ReadBackFind
+pub mod ReadBackNames
+pub mod ReadBackGives
+pub mod ReadBackMembers
+pub mod ReadBackProps
+pub mod ReadBackOrder
+pub mod ReadBackLaws

@@ -20,18 +20,18 @@ use Rattle.mt_json.specs.declared.read.JsonFault.{JsonFault}
 use Rattle.mt_json.specs.declared.read.JsonFault.TheVariants as fault
 use Rattle.mt_json.specs.Body.{AllGive, is_repeat}
 
-abbrev cmp : List ℕ → List ℕ → Ordering
+abbrev pub cmp : List ℕ → List ℕ → Ordering
 cmp = slice_cmp nat_cmp
 
-abbrev member_names : Members → List (List ℕ)
+abbrev pub member_names : Members → List (List ℕ)
 member_names no_members = []
 member_names (member k d ms) = k ∷ member_names ms
 
 -- the name is below all of these
-abbrev IsBelow : List ℕ → List (List ℕ) → Type 0
+abbrev pub IsBelow : List ℕ → List (List ℕ) → Type 0
 IsBelow k ns = AllByRecursion (λ n. cmp k n ≡ Less) ns
 
-abbrev Rising : List (List ℕ) → Type 0
+abbrev pub Rising : List (List ℕ) → Type 0
 Rising ns = IsStrictlySortedBy (slice_cmp nat_cmp) ns
 
 abbrev Entry : Type 0
@@ -60,12 +60,12 @@ is_given (Ok ps) = true
 is_given (Err f) = false
 
 -- what these members give after the properties acc: more of them, which rise, and lie above what lies below the members
-abbrev GivesMore : List Prop → Members → List Prop → Type 0
+abbrev pub GivesMore : List Prop → Members → List Prop → Type 0
 GivesMore acc ms ps =
     (more : List Prop) × (ps ≡ acc ++ more) × RisingNames more
     × ((k : List ℕ) → IsBelow k (member_names ms) → IsBelow k (names more))
 
-more_of : (keys : KeyUse) (top : Data) (acc : List Prop) (ms : Members) (ps : List Prop) → AllGive keys top acc ms (Ok ps)
+pub more_of : (keys : KeyUse) (top : Data) (acc : List Prop) (ms : Members) (ps : List Prop) → AllGive keys top acc ms (Ok ps)
     → Rising (member_names ms) → GivesMore acc ms ps
 unfolding IsStrictlySortedBy ok_or_empty
 more_of keys top acc no_members ps is rising = ([], ap ok_or_empty is ∙ sym (append-nil acc), tt, λ k h. tt)
@@ -90,7 +90,7 @@ rising_given keys top es ps ordered gives =
 
 -- ---- rising names are not repeated
 
-at_seam : (k : List ℕ) (es : List Prop) (p : Prop) (ps : List Prop) → IsBelow k (names (es ++ p ∷ ps)) → cmp k p.name ≡ Less
+pub at_seam : (k : List ℕ) (es : List Prop) (p : Prop) (ps : List Prop) → IsBelow k (names (es ++ p ∷ ps)) → cmp k p.name ≡ Less
 at_seam k [] p ps h = h.0
 at_seam k (e ∷ es) p ps h = at_seam k es p ps h.1
 
@@ -102,7 +102,7 @@ unfolding IsStrictlySortedBy
 not_before [] p ps h = refl
 not_before (e ∷ es) p ps h = rw (apart e.name p.name (at_seam e.name es p ps h.0), not_before es p ps h.1)
 
-no_repeat : (earlier : List Prop) (at : ℕ) (ps : List Prop) → RisingNames (earlier ++ ps) → first_repeat_after earlier at ps ≡ None
+pub no_repeat : (earlier : List Prop) (at : ℕ) (ps : List Prop) → RisingNames (earlier ++ ps) → first_repeat_after earlier at ps ≡ None
 no_repeat earlier at [] h = refl
 no_repeat earlier at (p ∷ ps) h =
     ap (λ b. cond b (Some at) (first_repeat_after (earlier ++ p ∷ []) (at + 1) ps)) (not_before earlier p ps h)

@@ -1,4 +1,4 @@
--- The tag's member, of the digits of its two numbers.
+-- A tag inside a JSON string, of the digits of its two numbers.
 use Rattle.std.proofs.Common.{◌≡◌, ℕ, suc, ◌+◌, ◌^◌, ◌<◌, ◌≤◌, List, [], ◌∷◌, ◌++◌, length, get_or, refl, ap, sym, ◌∙◌, append_assoc, length-append, decimal, arith}
 use Rattle.std.specs.Prelude.{codes}
 use Rattle.std.proofs.lemmas.Fmt.{decimal_is_IsNumeral, length-decimal-le}
@@ -9,7 +9,8 @@ use Rattle.mt_model.specs.Tag.{tag_text, IsTag}
 use Rattle.mt_model.specs.declared.tag.Tag.{Tag}
 use Rattle.mt_json.specs.declared.write.Level.{Level}
 use Rattle.mt_json.specs.declared.write.Level.TheVariants as level
-use Rattle.mt_json.specs.Draft.{Drafted, tag_member, text_of, escaped, member_of_digits}
+use Rattle.mt_json.specs.Tagged.{tag_bytes}
+use Rattle.mt_json.specs.Draft.{escaped, quoted_digits}
 
 escape-append : (xs ys : List ℕ) → escape (xs ++ ys) ≡ escape xs ++ escape ys
 escape-append [] ys = refl
@@ -37,10 +38,6 @@ end_is : escape (34 ∷ []) ≡ codes "\\\""
 unfolding escape_byte
 end_is = refl
 
-name_is : quoted (codes "odata.etag") ≡ codes "\"odata.etag\""
-unfolding escape_byte
-name_is = refl
-
 regroup : (w s n e : List ℕ) → w ++ ((s ++ 46 ∷ n) ++ e) ≡ (((w ++ s) ++ 46 ∷ []) ++ n) ++ e
 regroup w s n e =
     sym (append_assoc w (s ++ 46 ∷ n) e)
@@ -59,38 +56,27 @@ escaped_is tag h =
     ∙ ap (λ l. codes "W/\\\"" ++ l) (escape-append (s ++ 46 ∷ n) (34 ∷ []) ∙ ap (λ l. l ++ escape (34 ∷ [])) digits ∙ ap (λ l. (s ++ 46 ∷ n) ++ l) end_is)
     ∙ regroup (codes "W/\\\"") s n (codes "\\\"")
 
-pub member_is : (tag : Tag) → IsTag tag → tag_member level.Minimal tag ≡ member_of_digits (decimal tag.store) (decimal tag.n)
-member_is tag h =
-    ap (λ l. l ++ 58 ∷ quoted (tag_text tag)) name_is
-    ∙ ap (λ l. codes "\"odata.etag\"" ++ 58 ∷ 34 ∷ (l ++ 34 ∷ [])) (escaped_is tag h)
+pub quoted_is : (tag : Tag) → IsTag tag → quoted (tag_text tag) ≡ quoted_digits (decimal tag.store) (decimal tag.n)
+quoted_is tag h = ap (λ l. 34 ∷ (l ++ 34 ∷ [])) (escaped_is tag h)
 
-pub digits_size : (s n : List ℕ) → length (member_of_digits s n) ≡ 22 + length s + length n
+digits_size : (s n : List ℕ) → length (escaped s n) ≡ 7 + length s + length n
 digits_size s n =
     let w = codes "W/\\\"" in
-    let name = codes "\"odata.etag\":\"" in
     omega (
       arith,
       length-append w s,
       length-append (w ++ s) (codes "."),
       length-append ((w ++ s) ++ codes ".") n,
       length-append (((w ++ s) ++ codes ".") ++ n) (codes "\\\""),
-      length-append name (escaped s n),
-      length-append (name ++ escaped s n) (codes "\""),
     )
 
-pub member_size : (tag : Tag) → IsTag tag → (length (tag_member level.Minimal tag) ≡ 22 + length (decimal tag.store) + length (decimal tag.n)) × (length (tag_member level.Minimal tag) ≤ 52)
-member_size tag h =
-    let e = ap (λ l. length l) (member_is tag h) ∙ digits_size (decimal tag.store) (decimal tag.n) in
+pub escaped_size : (tag : Tag) → IsTag tag → (length (escape (tag_text tag)) ≡ 7 + length (decimal tag.store) + length (decimal tag.n)) × (length (escape (tag_text tag)) ≤ 37)
+escaped_size tag h =
+    let e = ap (λ l. length l) (escaped_is tag h) ∙ digits_size (decimal tag.store) (decimal tag.n) in
     let few = length-decimal-le 10 tag.store (omega arith) (omega (arith, h.0)) (omega (arith, h.0)) in
     let many = length-decimal-le 20 tag.n (omega arith) (omega (arith, h.1)) h.1 in
     (e, omega (arith, e, few, many))
 
-pub text_size : (d : Drafted) (tag : Tag) → length (text_of d tag) ≡ length d.before + length d.after + length (tag_member d.level tag)
-text_size d tag = omega (arith, length-append d.before (tag_member d.level tag ++ d.after), length-append (tag_member d.level tag) d.after)
-
-at_most : (l : Level) (tag : Tag) → IsTag tag → length (tag_member l tag) ≤ 52
+pub at_most : (l : Level) (tag : Tag) → IsTag tag → tag_bytes l (tag_text tag) ≤ 37
 at_most level.None tag h = omega arith
-at_most level.Minimal tag h = (member_size tag h).1
-
-pub text_fits : (d : Drafted) (tag : Tag) → IsTag tag → length (text_of d tag) ≤ length d.before + length d.after + 52
-text_fits d tag h = omega (arith, text_size d tag, at_most d.level tag h)
+at_most level.Minimal tag h = (escaped_size tag h).1

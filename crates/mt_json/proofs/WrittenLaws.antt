@@ -16,14 +16,16 @@ use Rattle.mt_model.specs.declared.value.Value.TheVariants.{Str, Binary, Bool as
 use Rattle.mt_json.specs.declared.write.Level.{Level}
 use Rattle.mt_json.specs.declared.write.Level.TheVariants as level
 use Rattle.mt_json.specs.Kind.{type_key}
+use Rattle.mt_json.specs.Tagged.{with_tag}
 use Rattle.mt_json.specs.Written.{type_name, Shows, is_chosen, put_chosen, put_type, put_etag, put_system, AddsProp, AddProps, put_keys, IsShown, IsObjectOf}
 
--- no float, and nothing inside
-record IsLeaf (d : Data) : Type 0 where
-  exact : has_float d ≡ false
-  flat : depth d ≡ 0
+-- no float, and nothing inside, and no place for the tag
+pub record IsLeaf (d : Data) : Type 0 where
+  pub exact : has_float d ≡ false
+  pub flat : depth d ≡ 0
+  pub given : (tag : List ℕ) → with_tag tag d ≡ d
 
-abbrev AreLeaves : Members → Type 0
+abbrev pub AreLeaves : Members → Type 0
 AreLeaves no_members = ⊤
 AreLeaves (member k d ms) = IsLeaf d × AreLeaves ms
 
@@ -38,15 +40,15 @@ leaves-put k d no_members a h = (a, tt)
 leaves-put k d (member l e ms) a h = leaves-match (slice_cmp nat_cmp k l) k l d e ms a h.0 h.1 (leaves-put k d ms a h.1)
 
 leaf-text : (text : List ℕ) → IsLeaf (string text)
-leaf-text text = record { exact = refl; flat = refl }
+leaf-text text = record { exact = refl; flat = refl; given = λ tag. refl }
 
 leaf-number : (z : ℤ) → IsLeaf (number (of_integer z))
-leaf-number (pos n) = record { exact = refl; flat = refl }
-leaf-number (negsuc n) = record { exact = refl; flat = refl }
+leaf-number (pos n) = record { exact = refl; flat = refl; given = λ tag. refl }
+leaf-number (negsuc n) = record { exact = refl; flat = refl; given = λ tag. refl }
 
 leaf-shown : (v : Value) (d : Data) → Shows v d → IsLeaf d
 leaf-shown (Str text) d e = subst IsLeaf (sym e) (leaf-text text)
-leaf-shown (Boolean b) d e = subst IsLeaf (sym e) (record { exact = refl; flat = refl })
+leaf-shown (Boolean b) d e = subst IsLeaf (sym e) (record { exact = refl; flat = refl; given = λ tag. refl })
 leaf-shown (Int32 z) d e = subst IsLeaf (sym e) (leaf-number z)
 leaf-shown (Binary bytes) d e = subst IsLeaf (sym e) (leaf-text _)
 leaf-shown (Int64 z) d e = subst IsLeaf (sym e) (leaf-text _)
@@ -104,10 +106,9 @@ is_shallow e l chosen d (ms, h, is) =
     let one : depth d ≡ 1 = ap depth is ∙ rw flat in
     omega (arith, one)
 
-pub no_float-shown : (key : Key) (ps : List Prop) (l : Level) (chosen : Option (List (List ℕ))) (ms : Members) → IsShown key ps l chosen ms
-    → members_have_float ms ≡ false
-no_float-shown key ps l chosen ms (shown, adds, is) =
-    ap members_have_float is ∙ no_float-leaves (put_keys chosen key shown) (leaves-keys chosen key shown (leaves-props l chosen ps no_members shown adds tt))
+pub leaves-shown : (key : Key) (ps : List Prop) (l : Level) (chosen : Option (List (List ℕ))) (ms : Members) → IsShown key ps l chosen ms → AreLeaves ms
+leaves-shown key ps l chosen ms (shown, adds, is) =
+    subst AreLeaves (sym is) (leaves-keys chosen key shown (leaves-props l chosen ps no_members shown adds tt))
 
 -- the members with the tag make the entity's object
 pub object-shown : (e : Entity) (l : Level) (chosen : Option (List (List ℕ))) (ms : Members) → IsShown e.key e.props l chosen ms

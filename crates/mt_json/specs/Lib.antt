@@ -2,4 +2,5 @@ pub mod Kind
 pub mod Value
 pub mod Body
 pub mod Written
+pub mod Tagged
 pub mod Draft

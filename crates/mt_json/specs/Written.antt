@@ -1,7 +1,8 @@
 -- What is written for an entity: the JSON that `serde_json` prints compactly.
-use Rattle.std.specs.Prelude.{◌≡◌, ◌⊎◌, ℕ, Bool, true, false, ◌&&◌, List, [], ◌∷◌, codes, bytes_eq, Option, None, Some, option_map, if◌then◌else◌}
+use Rattle.std.specs.Prelude.{◌≡◌, ◌⊎◌, ℕ, Bool, true, false, ◌&&◌, List, [], ◌∷◌, codes, bytes_eq, filter, Option, None, Some, option_map, IsOkAnd, IsUtf8, if◌then◌else◌, ⊤}
 use Rattle.std.specs.List.{list_any}
 use Rattle.std.specs.Fmt.{signed_decimal}
+use Rattle.std.specs.declared.result.Result.{Result}
 use Rattle.base64.specs.Engines.{standard}
 use Rattle.base64.specs.GeneralPurpose.{encode_of}
 use Rattle.uuid.specs.Text.{hyphenated_text, lower}
@@ -13,6 +14,7 @@ use Rattle.mt_model.specs.declared.key.Key.{Key}
 use Rattle.mt_model.specs.declared.value.Prop.{Prop}
 use Rattle.mt_model.specs.declared.value.Value.{Value}
 use Rattle.mt_model.specs.declared.value.Value.TheVariants.{Str, Binary, Bool as Boolean, Int32, Int64, Guid, Moment}
+use Rattle.mt_model.specs.Name.{is_name}
 use Rattle.mt_model.specs.Props.{is_visible}
 use Rattle.mt_model.specs.Tag.{tag_text}
 use Rattle.mt_time.specs.Moment.{HasTicksInFull}
@@ -20,7 +22,11 @@ use Rattle.mt_json.specs.declared.write.Level.{Level}
 use Rattle.mt_json.specs.declared.write.Level.TheVariants as level
 use Rattle.mt_json.specs.Kind.{kind_of, type_key}
 use Rattle.mt_json.specs.Value.{IsValue}
-use Rattle.mt_json.specs.Body.{Reads}
+use Rattle.mt_json.specs.declared.read.Body.{Body}
+use Rattle.mt_json.specs.declared.read.JsonFault.{JsonFault}
+use Rattle.mt_json.specs.declared.read.KeyUse.{KeyUse}
+use Rattle.mt_json.specs.declared.read.KeyUse.TheVariants.{InBody, InTarget}
+use Rattle.mt_json.specs.Body.{Reads, ReadsAs}
 
 -- the name of a type that the value alone does not show
 abbrev pub type_name : Value → Option (List ℕ)
@@ -106,3 +112,31 @@ IsWritten e level chosen text = (d : Data) × IsObjectOf e level chosen d × (te
 -- the text is read as the entity's object
 abbrev pub IsReadAs : Entity → Level → Option (List (List ℕ)) → List ℕ → Type 0
 IsReadAs e level chosen text = (d : Data) × IsObjectOf e level chosen d × Reads text d
+
+-- the name is UTF-8, and a name of a property
+abbrev pub IsNamed : Prop → Type 0
+IsNamed p = IsUtf8 p.name × (is_name p.name ≡ true)
+
+-- each property has a name
+abbrev pub AreNamed : List Prop → Type 0
+AreNamed [] = ⊤
+AreNamed (p ∷ ps) = IsNamed p × AreNamed ps
+
+-- the text of a key, where the body is to have it
+abbrev pub own_key : KeyUse → List ℕ → Option (List ℕ)
+own_key InBody text = Some text
+own_key InTarget text = None
+
+-- the body has the entity's keys, unless they stand in the target, and its visible properties, and no others
+pub record IsBodyOf (keys : KeyUse) (e : Entity) (body : Body) : Type 0 where
+  pub pk : body.pk ≡ own_key keys e.key.pk
+  pub rk : body.rk ≡ own_key keys e.key.rk
+  pub props : body.props ≡ filter is_visible e.props
+
+-- whatever reading the text as a body gives, it is the entity's keys and visible properties
+abbrev pub ReadsBack : Entity → List ℕ → Type 0
+ReadsBack e text = (keys : KeyUse) (r : Result Body JsonFault) → ReadsAs keys text r → IsOkAnd r (IsBodyOf keys e)
+
+-- with type keys, and where no names were chosen, the text reads back as the entity
+abbrev pub IsRoundTrip : Entity → Level → Option (List (List ℕ)) → List ℕ → Type 0
+IsRoundTrip e depth chosen text = depth ≡ level.Minimal → chosen ≡ None → ReadsBack e text

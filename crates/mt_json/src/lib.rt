@@ -5,6 +5,8 @@ mod draft;
 mod guid;
 mod kind;
 mod member;
+mod members;
+mod quote;
 mod read;
 #[cfg(test)]
 mod tests;

@@ -6,7 +6,7 @@ ghost use Rattle.mt_model.specs.Value.{is_too_large};
 ghost use Rattle.mt_model.specs.declared.value.Value.TheVariants as value;
 ghost use Rattle.mt_model.specs.Props.{IsProps, too_large_at};
 ghost use Rattle.mt_model.specs.Tag.{tag_text};
-ghost use Rattle.mt_json.specs.Written.{type_name, Shows, IsReadBack, is_chosen, is_shown, put_chosen, put_type as with_type, put_etag as with_etag, put_keys as with_keys, put_system as with_system, AddsProp, AddProps, IsObjectOf, IsWritten, IsReadAs};
+ghost use Rattle.mt_json.specs.Written.{type_name, Shows, IsReadBack, is_chosen, is_shown, put_chosen, put_type as with_type, put_etag as with_etag, put_keys as with_keys, put_system as with_system, AddsProp, AddProps, IsObjectOf, IsNamed, AreNamed, IsWritten, IsReadAs, IsRoundTrip};
 
 use crate::guid::guid_text;
 use base64::engine::general_purpose::STANDARD;
@@ -116,17 +116,19 @@ fn put_prop(
     prop: &Prop,
 ) -> Result<(), NoMemory>
     requires { too_large_at prop.now ≡ false }
-    ensures { OnOk result (AddsProp level (option_map (λ v. v.now.items) chosen.entry) prop.now
+    ensures adds { OnOk result (AddsProp level (option_map (λ v. v.now.items) chosen.entry) prop.now
         (members_view members.old.entries) (members_view members.new.entries)) }
+    ensures named { OnOk result (IsNamed prop.now) }
 {
+    let name = prop.name.as_str();
     if !prop.is_visible() {
         return Ok(());
     }
-    if !is_chosen(chosen, prop.name.as_str()) {
+    if !is_chosen(chosen, name) {
         return Ok(());
     }
     let value = json_of(alloc, &prop.value)?;
-    put(members, alloc, prop.name.as_str(), value)?;
+    put(members, alloc, name, value)?;
     put_type(members, alloc, level, prop)
 }
 
@@ -139,8 +141,9 @@ pub(crate) fn put_props(
     props: &[Prop],
 ) -> Result<(), NoMemory>
     requires { IsProps props.now }
-    ensures { OnOk result (AddProps level (option_map (λ v. v.now.items) chosen.entry) props.now
+    ensures adds { OnOk result (AddProps level (option_map (λ v. v.now.items) chosen.entry) props.now
         (members_view members.old.entries) (members_view members.new.entries)) }
+    ensures named { OnOk result (AreNamed props.now) }
 {
     for prop in props {
         put_prop(members, alloc, level, chosen, prop)?;
@@ -219,7 +222,9 @@ fn object_of(
     level: Level,
     chosen: Option<&Vec<Text>>,
 ) -> Result<Json, NoMemory>
-    ensures { IfOk result (λ v. IsObjectOf entity.now level (option_map (λ v. v.now.items) chosen.entry) (view v)) }
+    ensures object { IfOk result (λ v. IsObjectOf entity.now level (option_map (λ v. v.now.items) chosen.entry) (view v)) }
+    ensures named { IfOk result (λ _. AreNamed entity.now.props) }
+    ensures valid { IfOk result (λ _. IsProps entity.now.props) }
 {
     let mut members = Map::new(alloc);
     put_props(&mut members, alloc, level, chosen, entity.props.as_slice())?;
@@ -234,7 +239,8 @@ fn object_of(
 ///
 /// Edm.Int64 is written as a decimal string, Edm.Guid in lower case, Edm.DateTime with seven
 /// decimals, and Edm.Binary in standard base64 with padding (RFC 4648). Strings are escaped as
-/// `serde_json` does. The one error is want of memory.
+/// `serde_json` does. At `Level::Minimal` and without `chosen`, `read_entity` reads the text as the
+/// entity's key and visible properties. The one error is want of memory.
 pub fn write_entity(
     alloc: Global,
     entity: &Entity,
@@ -244,6 +250,8 @@ pub fn write_entity(
     ensures written { IfOk result (IsWritten entity.now level (option_map (λ v. v.now.items) chosen.entry)) }
     // so `serde_json` reads the text as the object that was written
     ensures reads_back { IfOk result (IsReadAs entity.now level (option_map (λ v. v.now.items) chosen.entry)) }
+    // and `read_entity` as the entity's keys and visible properties
+    ensures round_trip { IfOk result (IsRoundTrip entity.now level (option_map (λ v. v.now.items) chosen.entry)) }
 {
     let object = object_of(alloc, entity, level, chosen)?;
     let text = object.to_string(alloc)?;

@@ -1,28 +1,40 @@
-use Rattle.std.proofs.Common.{option_map, subst}
-use Rattle.std.proofs.lemmas.Result.{MatchResult-weaker}
+use Rattle.std.proofs.Common.{arith, rules, option_map, subst, sym, ap, ◌∙◌}
 use Rattle.serde_json.specs.Data.{object}
 use Rattle.serde_json.specs.View.{members_view}
+use Rattle.serde_json.specs.Written.{compact_text}
 use Rattle.mt_model.specs.Tag.{tag_text}
 use Rattle.mt_json.specs.Written.{IsShown, put_etag}
-use Rattle.mt_json.proofs.WrittenLaws.{no_float-shown, object-shown}
+use Rattle.mt_json.specs.Tagged.{AreFlat, tagged}
+use Rattle.mt_json.proofs.WrittenLaws.{leaves-shown, object-shown}
+use Rattle.mt_json.proofs.MembersLaws.{flat_placed, tagged_placed, draft_of}
 use Rattle.mt_json.proofs.draft.Draft.new.Goals as goal
 
-pub of_members-requires : goal.of_members-requires
-of_members-requires c =
-    no_float-shown c.args.key.now c.as_slice.result.now c.args.level (option_map (λ v. v.now.items) c.args.chosen)
-    (members_view c.in_ok-members.members.entries) c.in_ok-members.ensures
+pub members_size-requires : goal.members_size-requires
+members_size-requires c =
+    let ms = members_view c.in_ok-shown.shown.entries in
+    let leaves = leaves-shown c.args.key.now c.as_slice.result.now c.args.level (option_map (λ v. v.now.items) c.args.chosen) ms c.in_ok-shown.ensures in
+    subst AreFlat (sym c.in_ok-members.ensures) (flat_placed c.args.level ms leaves)
+
+pub invariant_of-result : goal.invariant_of-result
+invariant_of-result c =
+    let ms = members_view c.in_ok-shown.shown.entries in
+    let leaves = leaves-shown c.args.key.now c.as_slice.result.now c.args.level (option_map (λ v. v.now.items) c.args.chosen) ms c.in_ok-shown.ensures in
+    record {
+      valid = draft_of c.args.level ms (members_view c.in_ok-members.members.entries) c.saturating_add-size.result leaves c.in_ok-members.ensures
+          (search rules) (omega (arith, c.if-size.false));
+    }
 
 pub returns : goal.returns
 returns c =
     let chosen = option_map (λ v. v.now.items) c.args.chosen in
-    let ms = members_view c.in_ok-members.members.entries in
-    let shown = subst (λ ps. IsShown c.args.key.now ps c.args.level chosen ms) c.as_slice.ensures.value c.in_ok-members.ensures in
+    let ms = members_view c.in_ok-shown.shown.entries in
+    let shown = subst (λ ps. IsShown c.args.key.now ps c.args.level chosen ms) c.as_slice.ensures.value c.in_ok-shown.ensures in
+    let leaves = leaves-shown c.args.key.now c.args.props.now c.args.level chosen ms shown in
     record {
-      written = MatchResult-weaker c.of_members.result c.of_members.ensures
-          (λ d same. λ tag. (
-            object (put_etag c.args.level (tag_text tag) ms),
-            object-shown (record { key = c.args.key.now; props = c.args.props.now; tag = tag }) c.args.level chosen ms shown,
-            same tag,
-          ))
-          (λ e h. h);
+      written = λ tag. (
+        object (put_etag c.args.level (tag_text tag) ms),
+        object-shown (record { key = c.args.key.now; props = c.args.props.now; tag = tag }) c.args.level chosen ms shown,
+        ap (λ all. compact_text (object (tagged (tag_text tag) all))) c.in_ok-members.ensures
+            ∙ ap (λ all. compact_text (object all)) (tagged_placed c.args.level (tag_text tag) ms leaves),
+      );
     }
