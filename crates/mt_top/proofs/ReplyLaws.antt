@@ -5,7 +5,8 @@ use Rattle.std.specs.Global.{Vec}
 use Rattle.std.proofs.lemmas.Fmt.{length-decimal-le}
 use Rattle.mt_model.specs.declared.tag.Tag.{Tag}
 use Rattle.mt_model.specs.Tag.{IsTag}
-use Rattle.mt_json.specs.Draft.{Drafted, text_of, HasRoom, Appends}
+use Rattle.mt_json.specs.declared.draft.Draft.{Draft}
+use Rattle.mt_json.specs.Draft.{text_of, HasRoom, Appends}
 use Rattle.mt_top.specs.declared.reply.TheConstants.{EXISTS, UNSUPPORTED}
 use Rattle.mt_top.specs.Replies.{IsRoomFor, created_head, created_reply, exists_reply, unsupported_reply}
 
@@ -27,7 +28,7 @@ head_len : (store n : List ℕ) (size : ℕ) → length (created_head store n si
 head_len store n size = simp length-append (omega arith)
 
 -- the reply fits into the room
-pub reply_fits : (room : Vec ℕ) (draft : Drafted) (tag : Tag) (store n : List ℕ) (size : ℕ) → IsRoomFor draft room → IsTag tag → length store ≤ 10 → length n ≤ 20 → size ≡ length (text_of draft tag)
+pub reply_fits : (room : Vec ℕ) (draft : Draft) (tag : Tag) (store n : List ℕ) (size : ℕ) → IsRoomFor draft room → IsTag tag → length store ≤ 10 → length n ≤ 20 → size ≡ length (text_of draft tag)
     → HasRoom room (created_head store n size ++ text_of draft tag)
 reply_fits room draft tag store n size fits is s d same =
     let none : vec_len room ≡ 0 = omega (arith, room.ok.0, ap length fits.empty) in

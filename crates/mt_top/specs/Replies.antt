@@ -7,7 +7,8 @@ use Rattle.mt_model.specs.declared.value.Prop.{Prop}
 use Rattle.mt_model.specs.Tag.{IsTag, tag_text, framed}
 use Rattle.mt_json.specs.declared.write.Level.TheVariants.{Minimal}
 use Rattle.mt_json.specs.Written.{IsWritten}
-use Rattle.mt_json.specs.Draft.{Drafted, text_of}
+use Rattle.mt_json.specs.declared.draft.Draft.{Draft}
+use Rattle.mt_json.specs.Draft.{text_of}
 use Rattle.mt_top.specs.declared.reply.Prepared.{Prepared}
 
 -- the reply to an insert that wrote its row with this tag, where this is the text of the entity
@@ -29,7 +30,7 @@ created_head store n size = codes "HTTP/1.1 201 Created\r\nContent-Type: applica
     ++ codes "\r\nContent-Length: " ++ decimal size ++ codes "\r\n\r\n"
 
 -- the room is empty, and has 256 bytes more than the text of the entity, whatever its tag is
-pub record IsRoomFor (draft : Drafted) (room : Vec ℕ) : Type 0 where
+pub record IsRoomFor (draft : Draft) (room : Vec ℕ) : Type 0 where
   pub empty : room.items ≡ []
   pub wide : (tag : Tag) → IsTag tag → 256 + length (text_of draft tag) ≤ vec_capacity room
 
