@@ -1,6 +1,7 @@
 pub mod ValueLaws
 pub mod MemberLaws
 pub mod WrittenLaws
+pub mod ReadLaws
 pub mod RoomLaws
 pub mod MembersLaws
 pub mod TagLaws

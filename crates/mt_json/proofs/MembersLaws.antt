@@ -5,7 +5,7 @@ use Rattle.std.specs.Ordering.{nat_cmp, match_ordering}
 use Rattle.std.specs.Cmp.Lexicographic.{slice_cmp}
 use Rattle.std.proofs.lemmas.Bool.{or_parts}
 use Rattle.json.specs.Print.{quoted, escape}
-use Rattle.serde_json.specs.Data.{Data, null, string, Members, no_members, member, put, depth, members_depth}
+use Rattle.serde_json.specs.Data.{Data, null, string, Members, no_members, member, put, members_depth}
 use Rattle.serde_json.specs.Written.{has_float, members_have_float, comma_if, compact_text, members_text}
 use Rattle.mt_json.specs.declared.write.Level.{Level}
 use Rattle.mt_json.specs.declared.write.Level.TheVariants as level
@@ -28,7 +28,7 @@ member_then later tag k d ms = regroup (comma_if later) (quoted k) (compact_text
 
 tagged_same : (tag : List ℕ) (ms : Members) → AreLeaves ms → tagged tag ms ≡ ms
 tagged_same tag no_members h = refl
-tagged_same tag (member k d ms) h = ap₂ (member k) (h.0.given tag) (tagged_same tag ms h.1)
+tagged_same tag (member k d ms) h = ap₂ (member k) (h.0.0.given tag) (tagged_same tag ms h.1)
 
 tagged_match : (o : Ordering) (tag k l : List ℕ) (e : Data) (ms : Members) → with_tag tag e ≡ e → tagged tag ms ≡ ms → tagged tag (put k null ms) ≡ put k (string tag) ms
     → tagged tag (match_ordering o (member k null (member l e ms)) (member l null ms) (member l e (put k null ms)))
@@ -39,7 +39,7 @@ tagged_match Greater tag k l e ms given same later = ap₂ (member l) given late
 
 tagged_put : (tag k : List ℕ) (ms : Members) → AreLeaves ms → tagged tag (put k null ms) ≡ put k (string tag) ms
 tagged_put tag k no_members h = refl
-tagged_put tag k (member l e ms) h = tagged_match (slice_cmp nat_cmp k l) tag k l e ms (h.0.given tag) (tagged_same tag ms h.1) (tagged_put tag k ms h.1)
+tagged_put tag k (member l e ms) h = tagged_match (slice_cmp nat_cmp k l) tag k l e ms (h.0.0.given tag) (tagged_same tag ms h.1) (tagged_put tag k ms h.1)
 
 -- the members with the tag in its place are those with the tag put among them
 pub tagged_placed : (l : Level) (tag : List ℕ) (ms : Members) → AreLeaves ms → tagged tag (placed l ms) ≡ put_etag l tag ms
@@ -51,7 +51,7 @@ flat_null = record { exact = refl; flat = refl }
 
 flat_leaves : (ms : Members) → AreLeaves ms → AreFlat ms
 flat_leaves no_members h = tt
-flat_leaves (member k d ms) h = (record { exact = h.0.exact; flat = h.0.flat }, flat_leaves ms h.1)
+flat_leaves (member k d ms) h = (record { exact = h.0.0.exact; flat = h.0.0.flat }, flat_leaves ms h.1)
 
 flat_match : (o : Ordering) (k l : List ℕ) (e : Data) (ms : Members) → IsFlat e → AreFlat ms → AreFlat (put k null ms)
     → AreFlat (match_ordering o (member k null (member l e ms)) (member l null ms) (member l e (put k null ms)))

@@ -1,16 +1,16 @@
 //! From an entity to the text of its JSON object.
-ghost use Rattle.std.specs.Prelude.{◌≡◌, false, IfOk, OnOk, option_map, bytes_eq};
+ghost use Rattle.std.specs.Prelude.{◌≡◌, false, IfOk, IsUtf8, OnOk, option_map, bytes_eq};
 ghost use Rattle.std.specs.List.{list_any};
 ghost use Rattle.serde_json.specs.View.{view, members_view};
 ghost use Rattle.mt_model.specs.Value.{is_too_large};
 ghost use Rattle.mt_model.specs.declared.value.Value.TheVariants as value;
 ghost use Rattle.mt_model.specs.Props.{IsProps, too_large_at};
-ghost use Rattle.mt_model.specs.Tag.{tag_text};
-ghost use Rattle.mt_json.specs.Written.{type_name, Shows, IsReadBack, is_chosen, is_shown, put_chosen, put_type as with_type, put_etag as with_etag, put_keys as with_keys, put_system as with_system, AddsProp, AddProps, IsObjectOf, IsNamed, AreNamed, IsWritten, IsReadAs, IsRoundTrip};
+ghost use Rattle.mt_json.specs.Written.{type_name, Shows, IsReadBack, is_chosen, is_shown, put_chosen, put_type as with_type, put_keys as with_keys, AddsProp, AddProps, IsNamed, AreNamed, IsWritten, IsReadAs, IsRoundTrip};
 
+use crate::draft::Draft;
 use crate::guid::guid_text;
 use base64::engine::general_purpose::STANDARD;
-use mt_model::{Entity, Key, NoMemory, Prop, Tag, Text, Value};
+use mt_model::{Entity, Key, NoMemory, Prop, Text, Value};
 use mt_time::print_utc;
 use serde_json::{Map, Value as Json, put};
 use std::alloc::Global;
@@ -169,24 +169,6 @@ fn put_key(
     Ok(put(members, alloc, name, text)?)
 }
 
-/// Adds the tag, at the level that has it.
-fn put_etag(
-    members: &mut Map<String, Json>,
-    alloc: Global,
-    level: Level,
-    tag: Tag,
-) -> Result<(), NoMemory>
-    ensures { OnOk result (members_view members.new.entries
-        ≡ with_etag level (tag_text tag) (members_view members.old.entries)) }
-{
-    if matches!(level, Level::None) {
-        return Ok(());
-    }
-    let tag = tag.print(alloc)?;
-    let tag = Json::from(String::from_str(alloc, tag.as_str())?);
-    Ok(put(members, alloc, "odata.etag", tag)?)
-}
-
 /// Adds the keys that are chosen.
 pub(crate) fn put_keys(
     members: &mut Map<String, Json>,
@@ -201,35 +183,14 @@ pub(crate) fn put_keys(
     put_key(members, alloc, chosen, "RowKey", &key.rk)
 }
 
-/// Adds the keys that are chosen, and the tag.
-fn put_system(
-    members: &mut Map<String, Json>,
-    alloc: Global,
-    level: Level,
-    chosen: Option<&Vec<Text>>,
-    entity: &Entity,
-) -> Result<(), NoMemory>
-    ensures { OnOk result (members_view members.new.entries
-        ≡ with_system level (option_map (λ v. v.now.items) chosen.entry) entity.now (members_view members.old.entries)) }
+/// The bytes as a text.
+fn text_from(bytes: Vec<u8>) -> Result<Text, NoMemory>
+    ensures { IfOk result (λ text. (text ≡ bytes.items) × IsUtf8 bytes.items) }
 {
-    put_keys(members, alloc, chosen, &entity.key)?;
-    put_etag(members, alloc, level, entity.tag)
-}
-
-fn object_of(
-    alloc: Global,
-    entity: &Entity,
-    level: Level,
-    chosen: Option<&Vec<Text>>,
-) -> Result<Json, NoMemory>
-    ensures object { IfOk result (λ v. IsObjectOf entity.now level (option_map (λ v. v.now.items) chosen.entry) (view v)) }
-    ensures named { IfOk result (λ _. AreNamed entity.now.props) }
-    ensures valid { IfOk result (λ _. IsProps entity.now.props) }
-{
-    let mut members = Map::new(alloc);
-    put_props(&mut members, alloc, level, chosen, entity.props.as_slice())?;
-    put_system(&mut members, alloc, level, chosen, entity)?;
-    Ok(Json::from(members))
+    match String::from_utf8(bytes) {
+        Ok(text) => Ok(Text::from_string(text)),
+        Err(_) => Err(NoMemory),
+    }
 }
 
 /// The text of an entity's JSON object (RFC 8259), without blanks and with its members in byte order of
@@ -253,7 +214,8 @@ pub fn write_entity(
     // and `read_entity` as the entity's keys and visible properties
     ensures round_trip { IfOk result (IsRoundTrip entity.now level (option_map (λ v. v.now.items) chosen.entry)) }
 {
-    let object = object_of(alloc, entity, level, chosen)?;
-    let text = object.to_string(alloc)?;
-    Ok(Text::from_string(text))
+    let draft = Draft::new(alloc, &entity.key, &entity.props, level, chosen)?;
+    let mut room = Vec::with_capacity(alloc, draft.size(entity.tag))?;
+    draft.write(entity.tag, &mut room);
+    text_from(room)
 }

@@ -4,7 +4,7 @@ ghost use Rattle.serde_json.specs.View.{members_view};
 ghost use Rattle.mt_model.specs.Props.{IsProps};
 ghost use Rattle.mt_model.specs.Tag.{IsTag};
 ghost use Rattle.mt_model.specs.declared.tag.Tag.{Tag};
-ghost use Rattle.mt_json.specs.Written.{IsWritten, IsShown};
+ghost use Rattle.mt_json.specs.Written.{IsWritten, IsShown, AreNamed};
 ghost use Rattle.mt_json.specs.Tagged.{placed};
 ghost use Rattle.mt_json.specs.Draft.{text_of, HasRoom, Appends};
 
@@ -28,7 +28,8 @@ fn shown(
     chosen: Option<&Vec<Text>>,
 ) -> Result<Map<String, Json>, NoMemory>
     requires { IsProps props.now }
-    ensures { IfOk result (λ m. IsShown key.now props.now level (option_map (λ v. v.now.items) chosen.entry) (members_view m.entries)) }
+    ensures named { IfOk result (λ _. AreNamed props.now) }
+    ensures shown { IfOk result (λ m. IsShown key.now props.now level (option_map (λ v. v.now.items) chosen.entry) (members_view m.entries)) }
 {
     let mut members = Map::new(alloc);
     put_props(&mut members, alloc, level, chosen, props)?;
@@ -61,6 +62,8 @@ impl Draft {
         level: Level,
         chosen: Option<&Vec<Text>>,
     ) -> Result<Draft, NoMemory>
+        ensures named { IfOk result (λ _. AreNamed props.now) }
+        ensures valid { IfOk result (λ _. IsProps props.now) }
         ensures written { IfOk result (λ d. (tag : Tag) → IsWritten (record { key = key.now; props = props.now; tag = tag }) level (option_map (λ v. v.now.items) chosen.entry) (text_of d tag)) }
     {
         let shown = shown(alloc, key, props.as_slice(), level, chosen)?;
