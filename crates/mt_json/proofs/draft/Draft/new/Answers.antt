@@ -34,8 +34,8 @@ returns-clause-written c =
     let shown = subst (λ ps. IsShown c.args.key.now ps c.args.level chosen ms) c.as_slice.ensures.value c.in_ok-shown.ensures.shown in
     let leaves = leaves-shown c.args.key.now c.args.props.now c.args.level chosen ms shown in
     (λ tag. (
-        object (put_etag c.args.level (tag_text tag) ms),
-        object-shown (record { key = c.args.key.now; props = c.args.props.now; tag = tag }) c.args.level chosen ms shown,
-        ap (λ all. compact_text (object (tagged (tag_text tag) all))) c.in_ok-members.ensures
-            ∙ ap (λ all. compact_text (object all)) (tagged_placed c.args.level (tag_text tag) ms leaves),
+      object (put_etag c.args.level (tag_text tag) ms),
+      object-shown (record { key = c.args.key.now; props = c.args.props.now; tag = tag }) c.args.level chosen ms shown,
+      ap (λ all. compact_text (object (tagged (tag_text tag) all))) c.in_ok-members.ensures
+          ∙ ap (λ all. compact_text (object all)) (tagged_placed c.args.level (tag_text tag) ms leaves),
     ))
