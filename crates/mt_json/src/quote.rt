@@ -1,5 +1,6 @@
 //! Texts as JSON strings (RFC 8259), written into room that is there.
-ghost use Rattle.std.specs.Prelude.{◌≡◌, ◌<◌, ◌-◌, ◌^◌, min, length};
+ghost use Rattle.std.specs.Prelude.{◌≡◌, ◌<◌, ◌-◌, ◌^◌, ◌∷◌, [], min, length};
+ghost use Rattle.std.specs.Bool.{OnTrue};
 ghost use Rattle.std.specs.Char.{digit_char};
 ghost use Rattle.json.specs.Print.{escape_letter, escape_byte, escape, quoted};
 ghost use Rattle.mt_json.specs.Draft.{HasRoom, Appends};
@@ -85,6 +86,28 @@ fn put_escape(room: &mut Vec<u8>, byte: u8)
     }
 }
 
+/// Whether the byte stands for itself in a JSON string.
+fn is_plain(byte: u8) -> bool
+    ensures { OnTrue result (escape_byte byte ≡ byte ∷ []) }
+{
+    if byte < 0x20 {
+        return false;
+    }
+    letter_of(byte) == 0
+}
+
+/// Whether the text stands for itself in a JSON string.
+fn is_plain_text(text: &[u8]) -> bool
+    ensures { OnTrue result (escape text.now ≡ text.now) }
+{
+    for byte in text {
+        if !is_plain(*byte) {
+            return false;
+        }
+    }
+    true
+}
+
 fn escaped_size(text: &[u8]) -> usize
     ensures { result ≡ min (2 ^ 64 - 1) (length (escape text.now)) }
 {
@@ -104,11 +127,29 @@ fn put_escaped(room: &mut Vec<u8>, text: &[u8])
     }
 }
 
+/// Writes the text as it stands inside a JSON string, at once where it stands for itself.
+fn put_inner(room: &mut Vec<u8>, text: &[u8])
+    requires { HasRoom room.old (escape text.now) }
+    ensures { Appends room.old (escape text.now) room.new }
+{
+    if is_plain_text(text) {
+        put_bytes(room, text);
+    } else {
+        put_escaped(room, text);
+    }
+}
+
 /// The bytes of the text as a JSON string, or the largest number.
 pub(crate) fn quoted_size(text: &str) -> usize
     ensures { result ≡ min (2 ^ 64 - 1) (length (quoted text.now)) }
 {
-    escaped_size(text.as_bytes()).saturating_add(2)
+    let text = text.as_bytes();
+    let size = if is_plain_text(text) {
+        text.len()
+    } else {
+        escaped_size(text)
+    };
+    size.saturating_add(2)
 }
 
 /// Writes the text as a JSON string. It takes no memory.
@@ -117,6 +158,6 @@ pub(crate) fn put_quoted(room: &mut Vec<u8>, text: &str)
     ensures { Appends room.old (quoted text.now) room.new }
 {
     put_bytes(room, b"\"");
-    put_escaped(room, text.as_bytes());
+    put_inner(room, text.as_bytes());
     put_bytes(room, b"\"");
 }
