@@ -1,0 +1,5 @@
+pub mod Weight
+pub mod Kept
+pub mod Window
+pub mod Replies
+pub mod Legal
