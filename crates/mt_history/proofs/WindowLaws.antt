@@ -1,21 +1,44 @@
 -- How legal histories grow, and that no tag of a write comes twice in one.
-use Rattle.std.proofs.Common.{◌≡◌, ◌≢◌, ◌∙◌, ◌⊎◌, ℕ, zero, suc, ◌+◌, ◌<◌, List, [], ◌∷◌, ◌++◌, length, get_or, refl, sym, ap, subst, inl, inr, arith, append_assoc, length-append}
-use Rattle.std.proofs.lemmas.List.{append-nil, get_or_default}
-use Rattle.std.proofs.lemmas.List.Elements.{All-append, Contains-get_or, Contains-append_left, Contains-append_right}
+use Rattle.std.proofs.Common.{◌≡◌, ◌≢◌, ◌∙◌, ◌⊎◌, suc, List, [], ◌∷◌, ◌++◌, get_or, refl, sym, ap, subst, inl, inr, arith, append_assoc}
+use Rattle.std.proofs.lemmas.List.{append-nil}
+use Rattle.std.proofs.lemmas.List.Elements.{All-append, Contains-append_right}
 use Rattle.std.proofs.lemmas.List.Concat.{flat_map-append}
 use Rattle.std.proofs.lemmas.List.Kept.{AllPairs-cons}
 use Rattle.std.proofs.lemmas.List.Sums.{fold-append}
-use Rattle.std.specs.List.{All, AllPairs, Contains, flat_map}
+use Rattle.std.specs.List.{All, AllPairs, Contains}
 use Rattle.mt_model.specs.declared.tag.Tag.{Tag}
-use Rattle.mt_chain.specs.Table.{Table}
+use Rattle.mt_chain.specs.declared.op.Op.{Op}
+use Rattle.mt_chain.specs.Table.{Table, IsFinite}
+use Rattle.mt_chain.specs.Batch.{batch_applied, table_after, unless_refusal}
+use Rattle.mt_chain.proofs.BatchLaws.{finite_after}
 use Rattle.mt_history.specs.declared.entry.What.{What}
 use Rattle.mt_history.specs.declared.entry.What.TheVariants as what
 use Rattle.mt_history.specs.declared.entry.Entry.{Entry}
-use Rattle.mt_history.specs.Window.{Window, after_entry, replay, begun, with_one}
+use Rattle.mt_history.specs.Window.{Window, after_entry, replay, table_at_end, begun, with_one}
 use Rattle.mt_history.specs.Legal.{IsLegal, IsLegalNext, IsTrueAtEnd, IsNew, HasTag, entry_tags, all_tags}
+use Rattle.mt_history.proofs.CountLaws.{along}
 
 pub replays_join : (table : Table) (xs ys : List Entry) → replay table (xs ++ ys) ≡ replay (replay table xs) ys
 replays_join table xs ys = fold-append (λ (t : Table) (e : Entry). after_entry t e.what) table xs ys
+
+-- ---- batches
+
+pub legal_batches_apply : (w : Window) (batch : List Op) (tags : List Tag) → IsTrueAtEnd w (what.Batch batch tags) → after_entry (table_at_end w) (what.Batch batch tags) ≡ table_after batch tags (table_at_end w)
+legal_batches_apply w batch tags says = sym (ap (λ r. unless_refusal r (batch_applied batch tags (table_at_end w)) (table_at_end w)) says.accepted)
+
+finite_entry : (w : Window) (said : What) → IsTrueAtEnd w said → IsFinite (table_at_end w) → IsFinite (after_entry (table_at_end w) said)
+finite_entry w (what.Batch batch tags) says finite = subst IsFinite (sym (legal_batches_apply w batch tags says)) (finite_after batch tags (table_at_end w) finite)
+finite_entry w (what.Refused batch) says finite = finite
+finite_entry w (what.Query pk wanted) says finite = finite
+finite_entry w (what.Scan pk from upto wanted) says finite = finite
+finite_entry w (what.Gap from to) says finite = finite
+finite_entry w what.Fault says finite = finite
+
+pub tables_stay_finite : (w : Window) → IsLegal w → IsFinite w.base → IsFinite (table_at_end w)
+tables_stay_finite w legal finite =
+    along w (λ xs. IsFinite (replay w.base xs))
+    (λ xs e rest is holds. subst IsFinite (sym (replays_join w.base xs (e ∷ []))) (finite_entry (begun w xs) e.what (legal xs rest e is).says holds))
+    [] w.entries refl finite
 
 -- ---- one entry more
 
@@ -113,14 +136,10 @@ once_more w before e once new = record {
       (All-append (λ tag. HasTag w.base tag → ⊥) (all_tags before) (entry_tags e.what) once.strange (λ k d l has. (new.fresh k d l).base has));
 }
 
-once_along : (w : Window) (before after : List Entry) → IsLegal w → w.entries ≡ before ++ after → AreOnce w before → AreOnce w w.entries
-once_along w before [] legal is once = subst (AreOnce w) (sym (is ∙ append-nil before)) once
-once_along w before (e ∷ after) legal is once =
-    let next = legal before after e is in
-    once_along w (before ++ e ∷ []) after legal (is ∙ sym (append_assoc before (e ∷ []) after)) (once_more w before e once (new_tags (begun w before) e.what next.says))
-
 tags_once : (w : Window) → IsLegal w → AreOnce w w.entries
-tags_once w legal = once_along w [] w.entries legal refl (record { apart = λ i j d ij jl. absurd (omega arith); strange = λ k d l. absurd (omega arith) })
+tags_once w legal =
+    along w (AreOnce w) (λ xs e rest is once. once_more w xs e once (new_tags (begun w xs) e.what (legal xs rest e is).says))
+    [] w.entries refl (record { apart = λ i j d ij jl. absurd (omega arith); strange = λ k d l. absurd (omega arith) })
 
 pub tags_differ : (w : Window) → IsLegal w → AllPairs (λ a b. a ≢ b) (all_tags w.entries)
 tags_differ w legal = (tags_once w legal).apart

@@ -1,5 +1,5 @@
 -- Which entries may come next, and which histories are legal.
-use Rattle.std.specs.Prelude.{◌≡◌, ◌≢◌, ℕ, ◌+◌, Bool, true, false, not, ◌&&◌, nat_eq, All, Contains, MatchOption, IsSome, List, [], ◌∷◌, ◌++◌, map, filter, length, Option, None, Some, option_map}
+use Rattle.std.specs.Prelude.{◌≡◌, ◌≢◌, ℕ, ◌+◌, Bool, true, false, ◌&&◌, nat_eq, All, Contains, MatchOption, IsSome, List, [], ◌∷◌, ◌++◌, map, filter, length, Option, None, Some, option_map}
 use Rattle.std.specs.List.{zip, flat_map, last_or, AllPairs}
 use Rattle.std.specs.Ordering.{nat_cmp, is_lt}
 use Rattle.std.specs.Cmp.Lexicographic.{slice_cmp}

@@ -3,3 +3,4 @@ pub mod Kept
 pub mod Window
 pub mod Replies
 pub mod Legal
+pub mod Cases

@@ -213,7 +213,7 @@ pub fn reply_of(alloc: Global, rows: &[Row], what: &What) -> Result<Reply, NoMem
             Ok(Reply::Written(Tags::of(tags)))
         }
         What::Refused { batch } => refusal_reply(alloc, rows, batch),
-        What::Query { pk, filter } => { rows_reply(alloc, rows, pk, &RkFrom::Start, &None, filter) }
+        What::Query { pk, filter } => rows_reply(alloc, rows, pk, &RkFrom::Start, &None, filter),
         What::Scan {
             pk,
             from,
