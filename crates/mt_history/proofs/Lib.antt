@@ -1,0 +1,5 @@
+mod CaseLaws
+pub mod CountLaws
+pub mod ListingLaws
+pub mod ReplyLaws
+pub mod WindowLaws

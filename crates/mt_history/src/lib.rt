@@ -1,0 +1,14 @@
+//! The history of a table: its entries in order, within limits, and what each is answered.
+#![tactic(auto)]
+
+mod entry;
+mod history;
+pub mod laws;
+pub mod model;
+mod need;
+#[cfg(test)]
+mod tests;
+
+pub use entry::{Entry, What};
+pub use history::History;
+pub use need::{MOVE_NEED, page_need, query_need};

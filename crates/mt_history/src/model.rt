@@ -1,0 +1,226 @@
+//! A plain program for the replies of entries, with which others are compared.
+//!
+//! It is given a whole table as one list, and is not made to be fast.
+ghost use Rattle.std.specs.Prelude.{◌≡◌, ◌<◌, ◌^◌, IsTrue, IfOk, length, Option, Some, None, option_copied, if◌then◌else◌};
+ghost use Rattle.mt_model.specs.Key.{key_cmp};
+ghost use Rattle.mt_chain.specs.Rows.{are_rising, is_from, is_upto};
+ghost use Rattle.mt_chain.specs.Places.{EndsAt};
+ghost use Rattle.mt_chain.specs.Table.{table_of};
+ghost use Rattle.mt_chain.specs.Effect.{cause_on};
+ghost use Rattle.mt_chain.specs.Batch.{refusal_of};
+ghost use Rattle.mt_history.specs.Replies as says;
+
+use crate::entry::What;
+use mt_chain::model::{EffectFault, Row, effect};
+use mt_chain::{Cause, Op, Refusal, RkFrom, Stored, Tags};
+use mt_filter::Filter;
+use mt_match::matches;
+use mt_model::{Entities, Entity, Key, NoMemory, Tag, Text};
+use mt_rules::Batch;
+use std::alloc::Global;
+use std::cmp::Ordering;
+
+/// What an entry is answered.
+#[derive(Drop)]
+pub enum Reply {
+    /// A batch was applied, and these are its tags, one for each operation.
+    Written(Tags),
+
+    /// A batch was refused.
+    Refused(Refusal),
+
+    /// These rows were found.
+    Rows(Entities),
+
+    /// There is no reply.
+    NoReply,
+}
+
+/// A tag for operations of which only the refusal is asked.
+const ANY_TAG: Tag = Tag { store: 0, n: 0 };
+
+/// The place of the row at a key, or where one would stand.
+fn place_of(rows: &[Row], key: &Key) -> Result<usize, usize>
+    requires { IsTrue (are_rising rows.now) }
+    ensures { EndsAt (λ k. key_cmp k key.now) rows.now result }
+{
+    rows.binary_search_by(
+        |row: &Row| -> Ordering
+            ensures { result ≡ key_cmp row.now.0 key.entry.now }
+        { row.0.order(key) },
+    )
+}
+
+/// The row at a key.
+fn row_at<'a>(rows: &'a [Row], key: &Key) -> Option<&'a Stored>
+    requires { IsTrue (are_rising rows.now) }
+    ensures { option_copied result ≡ table_of rows.now key.now }
+{
+    match place_of(rows, key) {
+        Ok(at) => Some(&rows[at].1),
+        Err(_) => None,
+    }
+}
+
+/// Why an operation is refused on no row or on a row.
+fn cause_on(alloc: Global, op: &Op, row: Option<&Stored>) -> Result<Option<Cause>, NoMemory>
+    ensures { IfOk result (λ c. c ≡ cause_on op.now (option_copied row.entry)) }
+{
+    match effect(alloc, op, row, ANY_TAG) {
+        Ok(_) => Ok(None),
+        Err(EffectFault::Refused { cause }) => Ok(Some(cause)),
+        Err(EffectFault::NoMemory) => Err(NoMemory),
+    }
+}
+
+/// The first operation that is refused on these rows, and why.
+fn refusal_of(alloc: Global, rows: &[Row], ops: &[Op]) -> Result<Option<Refusal>, NoMemory>
+    requires rising { IsTrue (are_rising rows.now) }
+    requires few { length ops.now < 2 ^ 32 }
+    ensures { IfOk result (λ r. r ≡ refusal_of ops.now (table_of rows.now)) }
+{
+    for (index, op) in ops.iter().enumerate() {
+        if let Some(cause) = cause_on(alloc, op, row_at(rows, op.key()))? {
+            let index = index as u32;
+            return Ok(Some(Refusal { index, cause }));
+        }
+    }
+    Ok(None)
+}
+
+/// A copy of a row.
+fn entity_of(alloc: Global, row: &Row) -> Result<Entity, NoMemory>
+    ensures { IfOk result (λ e. e ≡ says.entity_of row.now) }
+{
+    Ok(Entity {
+        key: row.0.copy(alloc)?,
+        props: row.1.props.copy(alloc)?,
+        tag: row.1.tag,
+    })
+}
+
+/// Whether the filter matches the row, or there is none.
+fn is_matched(filter: &Option<Filter>, entity: &Entity) -> bool
+    ensures { result ≡ says.is_matched filter.now entity.now.key entity.now.props }
+{
+    match filter {
+        None => true,
+        Some(filter) => matches(filter, entity),
+    }
+}
+
+/// Whether a row key lies at or after the place where a range begins.
+fn is_from(from: &RkFrom, rk: &Text) -> bool
+    ensures { result ≡ is_from from.now rk.now }
+{
+    match from {
+        RkFrom::Start => true,
+        RkFrom::From(low) => low <= rk,
+        RkFrom::After(low) => low < rk,
+    }
+}
+
+/// Whether a row key does not lie past the end of a range.
+fn is_upto(upto: &Option<Text>, rk: &Text) -> bool
+    ensures { result ≡ is_upto upto.now rk.now }
+{
+    match upto {
+        None => true,
+        Some(high) => rk <= high,
+    }
+}
+
+/// Whether a key lies in a range of a partition.
+fn in_range(pk: &Text, from: &RkFrom, upto: &Option<Text>, key: &Key) -> bool
+    ensures { result ≡ says.in_range pk.now from.now upto.now key.now }
+{
+    *pk == key.pk && is_from(from, &key.rk) && is_upto(upto, &key.rk)
+}
+
+/// A copy of the row, if the filter matches it.
+fn matched(alloc: Global, row: &Row, filter: &Option<Filter>) -> Result<Option<Entity>, NoMemory>
+    ensures { IfOk result (λ e. e ≡ (if says.is_matched filter.now row.now.0 row.now.1.props then Some (says.entity_of row.now) else None)) }
+{
+    let entity = entity_of(alloc, row)?;
+    if is_matched(filter, &entity) {
+        Ok(Some(entity))
+    } else {
+        Ok(None)
+    }
+}
+
+/// Copies of the rows of a range of a partition that the filter matches.
+fn picked(
+    alloc: Global,
+    rows: &[Row],
+    pk: &Text,
+    from: &RkFrom,
+    upto: &Option<Text>,
+    filter: &Option<Filter>,
+) -> Result<Vec<Entity>, NoMemory>
+    ensures { IfOk result (λ v. v.items ≡ says.picked (says.in_range pk.now from.now upto.now) filter.now rows.now) }
+{
+    let mut found = Vec::new(alloc);
+    for row in rows {
+        if in_range(pk, from, upto, &row.0) {
+            match matched(alloc, row, filter)? {
+                Some(entity) => found.push(entity)?,
+                None => {}
+            }
+        }
+    }
+    Ok(found)
+}
+
+/// The reply of the rows of a range of a partition that the filter matches.
+fn rows_reply(
+    alloc: Global,
+    rows: &[Row],
+    pk: &Text,
+    from: &RkFrom,
+    upto: &Option<Text>,
+    filter: &Option<Filter>,
+) -> Result<Reply, NoMemory>
+    requires { IsTrue (are_rising rows.now) }
+    ensures { IfOk result (λ r. says.ShowsRows r (says.selected (says.in_range pk.now from.now upto.now) filter.now (table_of rows.now))) }
+{
+    let found = picked(alloc, rows, pk, from, upto, filter)?;
+    Ok(Reply::Rows(Entities::of(found)))
+}
+
+/// The reply of a batch that is refused on these rows.
+fn refusal_reply(alloc: Global, rows: &[Row], batch: &Batch) -> Result<Reply, NoMemory>
+    requires { IsTrue (are_rising rows.now) }
+    ensures { IfOk result (λ r. r ≡ says.refusal_reply (refusal_of batch.now (table_of rows.now))) }
+{
+    match refusal_of(alloc, rows, batch.ops())? {
+        Some(refusal) => Ok(Reply::Refused(refusal)),
+        None => Ok(Reply::NoReply),
+    }
+}
+
+/// What an entry is answered at the table of these rows, whose keys rise: a batch its tags, a refused
+/// batch the refusal, a query and a scan the rows of their region that the filter matches, in the
+/// order of their keys, and a gap no rows. There is no reply to a fault, and none to a refused batch
+/// that nothing refuses on this table. The one error is want of memory.
+pub fn reply_of(alloc: Global, rows: &[Row], what: &What) -> Result<Reply, NoMemory>
+    requires { IsTrue (are_rising rows.now) }
+    ensures { IfOk result (λ r. says.Replies what.now (table_of rows.now) r) }
+{
+    match what {
+        What::Batch { tags, .. } => {
+            let tags = Vec::from_slice(alloc, tags.as_slice())?;
+            Ok(Reply::Written(Tags::of(tags)))
+        }
+        What::Refused { batch } => refusal_reply(alloc, rows, batch),
+        What::Query { pk, filter } => rows_reply(alloc, rows, pk, &RkFrom::Start, &None, filter),
+        What::Scan {
+            pk,
+            from,
+            upto,
+            filter,
+        } => rows_reply(alloc, rows, pk, from, upto, filter),
+        What::Gap { .. } => Ok(Reply::Rows(Entities::of(Vec::new(alloc)))),
+        What::Fault => Ok(Reply::NoReply),
+    }
+}
