@@ -9,3 +9,5 @@ mod TagLaws
 mod LeastLaws
 mod FirstLaws
 mod TableLaws
+mod WalkLaws
+mod OpeningLaws

@@ -4,3 +4,5 @@ pub mod Held
 pub mod Holdings
 pub mod Repeats
 pub mod Table
+pub mod Walk
+pub mod Opening

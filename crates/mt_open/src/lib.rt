@@ -8,17 +8,21 @@ mod forms;
 mod holding;
 mod holdings;
 mod laws;
+mod opening;
 mod phases;
 mod reading;
 mod table;
 mod tags;
 #[cfg(test)]
 mod tests;
+mod walk;
 
 pub use damage::{Damage, Rule, Side};
 pub use first::first_damage;
 pub use holding::Holding;
 pub use holdings::Holdings;
 pub use laws::sound_fails_nowhere;
+pub use opening::{OpenFault, open_pair};
 pub use reading::{Loaded, ReadFault, Row, read_store};
 pub use table::entity_at;
+pub use walk::logical_table;

@@ -14,7 +14,7 @@ use mt_model::{Key, NoMemory, Text, Texts};
 use std::alloc::Global;
 
 #[cfg(test)]
-mod tests;
+pub(crate) mod tests;
 
 /// A row of a store with its key.
 pub type Row = (Key, Stored);

@@ -10,7 +10,7 @@ use std::test::Fail;
 
 /// A row of a store, by its form: its key, and its tag as store and number.
 #[derive(Clone, Copy)]
-enum Line {
+pub(crate) enum Line {
     /// Partition key, tag, and the text of `$kind`.
     Marker(&'static str, u32, u64, &'static str),
     /// A marker that has a client's property too.
@@ -73,7 +73,8 @@ fn props_of(alloc: Global, line: Line) -> Result<Props, Fail> {
     Ok(props)
 }
 
-fn row_of(alloc: Global, line: Line) -> Result<(Key, Stored), Fail> {
+/// The row of a line, with its key.
+pub(crate) fn row_of(alloc: Global, line: Line) -> Result<(Key, Stored), Fail> {
     let (pk, rk, tag) = place_of_line(line);
     let props = props_of(alloc, line)?;
     let pk = Text::of(alloc, pk)?;

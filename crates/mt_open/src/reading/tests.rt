@@ -7,7 +7,8 @@ use mt_model::{Props, Text};
 use std::alloc::Global;
 use std::test::Fail;
 
-fn one(alloc: Global, put: Put) -> Result<Puts, Fail>
+/// One change.
+pub(crate) fn one(alloc: Global, put: Put) -> Result<Puts, Fail>
     ensures { IfOk result CanApply }
 {
     let mut list = Vec::new(alloc);
