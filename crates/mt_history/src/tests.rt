@@ -51,9 +51,10 @@ fn inserts(alloc: Global, rows: &[Sample]) -> Result<Vec<Op>, Fail>
     ensures { IfOk result (λ v. All MayAsk v.items) }
 {
     let mut ops = Vec::new(alloc);
-    for (pk, rk, n) in rows {
-        let props = number(alloc, *n)?;
-        ops.push(insert(alloc, *pk, *rk, &props)?)?;
+    for row in rows {
+        let (pk, rk, n) = *row;
+        let props = number(alloc, n)?;
+        ops.push(insert(alloc, pk, rk, &props)?)?;
     }
     Ok(ops)
 }
