@@ -1,0 +1,6 @@
+pub mod OrderLaws
+pub mod KeyLaws
+pub mod ListLaws
+pub mod FirstLaws
+pub mod JoinLaws
+pub mod MergeLaws
