@@ -21,6 +21,10 @@ Precedes lt key xs ys = AllByRecursion (λ x. Above lt key (key x) ys) xs
 
 -- ---- look-ups
 
+-- the key of an entry of a key and a value
+abbrev pub entry_key : {K X : Type 0} → K × X → K
+entry_key e = e.0
+
 -- the first element with that key, or none
 abbrev pub at_key : {K X : Type 0} → (K → K → Bool) → (X → K) → List X → K → Option X
 at_key lt key [] k = None
@@ -61,6 +65,10 @@ abbrev pub lesser_end : {K : Type 0} → (K → K → Bool) → Option K → Opt
 lesser_end lt None b = b
 lesser_end lt (Some a) None = Some a
 lesser_end lt (Some a) (Some b) = if lt b a then Some b else Some a
+
+-- the test passes each key above one that it passes
+abbrev pub Upward : {K : Type 0} → (K → K → Bool) → (K → Bool) → Type 0
+Upward {K} lt test = (a b : K) → lt a b ≡ true → test a ≡ true → test b ≡ true
 
 -- ---- the first rows
 

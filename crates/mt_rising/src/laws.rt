@@ -1,11 +1,12 @@
 //! Laws of rising lists: functions that do nothing, and whose clauses are proved.
-ghost use Rattle.std.specs.Prelude.{◌≡◌, ℕ, ◌<◌, Bool, true, not, ◌&&◌, List, ◌++◌, filter, Option, Some, None, IfSome, if◌then◌else◌};
+ghost use Rattle.std.specs.Prelude.{◌≡◌, ℕ, ◌<◌, Bool, true, not, ◌&&◌, List, ◌++◌, filter, Option, Some, None, IfSome, if◌then◌else◌, option_map, ◌↔◌};
 ghost use Rattle.std.specs.Cmp.{IsTotalOrder};
+ghost use Rattle.std.specs.FinMap.Entries.{find, is_sorted};
 ghost use Rattle.std.specs.Ordering.{is_le, ordering_then};
 ghost use Rattle.std.specs.declared.cmp.Ordering.{Ordering};
 ghost use Rattle.std.specs.declared.cmp.Ordering.TheVariants.{Equal};
 ghost use Rattle.mt_rising.specs.Order.{IsOrder, below_by, text_below, pair_below, text_pair_below};
-ghost use Rattle.mt_rising.specs.Listing.{Above, Rising, Precedes, at_key, kept, found_in, Lists, is_upto, lesser_end, last_key, end_of, first_rows, has_more};
+ghost use Rattle.mt_rising.specs.Listing.{Above, Rising, Precedes, at_key, entry_key, kept, found_in, Lists, Upward, is_from, is_after, is_upto, lesser_end, last_key, end_of, first_rows, has_more};
 ghost use Rattle.mt_rising.specs.Merging.{Overlays, merge};
 
 /// Texts by their bytes are an order, and so are pairs of texts, by the first and then by the second.
@@ -64,6 +65,18 @@ pub fn first_rows_show_up_to_their_end<K, X>()
     ensures end { (key : X → K) (limit : Option ℕ) (xs : List X) → IfSome limit (λ n. 0 < n) → has_more limit xs ≡ true → (l : K) × (end_of key limit xs ≡ Some l) }
 {}
 
+/// Where a test passes each key above one that it passes, as those of the start of a range do, what
+/// does not pass and then what passes is the list; so are the first elements and then those after
+/// their end.
+pub fn list_is_parted_at_a_key<K, X>()
+    ensures from { (lt : K → K → Bool) (start : K) → IsOrder lt → Upward lt (is_from lt start) }
+    ensures after { (lt : K → K → Bool) (start : K) → IsOrder lt → Upward lt (is_after lt start) }
+    ensures parts { (lt : K → K → Bool) (key : X → K) (test : K → Bool) (xs : List X) → Upward lt test → Rising lt key xs
+        → (filter (λ x. not (test (key x))) xs ++ filter (λ x. test (key x)) xs ≡ xs) }
+    ensures rest { (lt : K → K → Bool) (key : X → K) (limit : Option ℕ) (xs : List X) (end : K) → IsOrder lt → IfSome limit (λ n. 0 < n) → Rising lt key xs
+        → end_of key limit xs ≡ Some end → (first_rows limit xs ++ filter (λ x. is_after lt end (key x)) xs ≡ xs) }
+{}
+
 /// At the last key stands an element, and after it nothing.
 pub fn last_key_is_the_last<K, X>()
     ensures at { (lt : K → K → Bool) (key : X → K) (xs : List X) (l : K) → IsOrder lt → last_key key xs ≡ Some l → (x : X) × (at_key lt key xs l ≡ Some x) }
@@ -84,4 +97,12 @@ pub fn merged_lists_show_the_overlay<K, X, Y, Z>()
     ensures { (lt : K → K → Bool) (kx : X → K) (ky : Y → K) (kz : Z → K) (over : Option X → Option Y → Option Z) (left : K → Option X) (right : K → Option Y) (xs : List X) (ys : List Y)
         → IsOrder lt → Overlays kx ky kz over → Lists lt kx left xs → Lists lt ky right ys
         → Lists lt kz (λ k. over (left k) (right k)) (merge lt kx ky over xs ys) }
+{}
+
+/// A list of entries is sorted by a comparison exactly where it is a rising list, and the value found in
+/// it is that of the entry at the key.
+pub fn sorted_entries_are_rising<K, X>()
+    ensures rising { (cmp : K → K → Ordering) (es : List (K × X)) → ((is_sorted cmp es ≡ true) ↔ Rising (below_by cmp) entry_key es) }
+    ensures look_up { (cmp : K → K → Ordering) (es : List (K × X)) (k : K) → IsTotalOrder cmp
+        → (find cmp k es ≡ option_map (λ (e : K × X). e.1) (at_key (below_by cmp) entry_key es k)) }
 {}
