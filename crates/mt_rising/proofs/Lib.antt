@@ -5,4 +5,5 @@ pub mod FirstLaws
 pub mod PartLaws
 pub mod JoinLaws
 pub mod MergeLaws
+pub mod MapLaws
 pub mod EntryLaws

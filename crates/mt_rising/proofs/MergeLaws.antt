@@ -2,7 +2,7 @@
 use Rattle.std.specs.Prelude.{◌≡◌, Bool, true, false, cond, List, [], ◌∷◌, Option, Some, None, IfSome, if◌then◌else◌}
 use Rattle.std.proofs.Common.{refl, sym, ap, ◌∙◌, subst}
 use Rattle.mt_rising.specs.Order.{IsOrder, same}
-use Rattle.mt_rising.specs.Listing.{Above, Rising, at_key, Lists}
+use Rattle.mt_rising.specs.Listing.{Above, Rising, at_key, kept, Lists}
 use Rattle.mt_rising.specs.Merging.{with_some, Overlays, merge_right, merge_from, merge}
 use Rattle.mt_rising.proofs.OrderLaws.{same_not_below}
 use Rattle.mt_rising.proofs.ListLaws.{above_less, none_below}
@@ -29,6 +29,24 @@ module _ {K Z : Type 0} {lt : K → K → Bool} (so : IsOrder lt) (kz : Z → K)
   key_above : (k j : K) (o : Option Z) → lt k j ≡ true → IfSome o (λ z. kz z ≡ j) → IfSome o (λ z. lt k (kz z) ≡ true)
   key_above k j None b h = tt
   key_above k j (Some z) b h = subst (λ y. lt k y ≡ true) (sym h) b
+
+-- ---- an overlay whose results must pass a test
+
+kept_keyed : {K Z : Type 0} (kz : Z → K) (test : Z → Bool) (j : K) (o : Option Z) → IfSome o (λ z. kz z ≡ j) → IfSome (kept test o) (λ z. kz z ≡ j)
+kept_keyed kz test j None h = tt
+kept_keyed kz test j (Some z) h = elim (test z) as (λ b. IfSome (cond b (Some z) None) (λ z. kz z ≡ j)) [
+  | true ↦ h
+  | false ↦ tt
+]
+
+pub kept_overlays : {K X Y Z : Type 0} (kx : X → K) (ky : Y → K) (kz : Z → K) (over : Option X → Option Y → Option Z) (test : Z → Bool)
+    → Overlays kx ky kz over → Overlays kx ky kz (λ x y. kept test (over x y))
+kept_overlays kx ky kz over test o = record {
+  none = ap (kept test) o.none;
+  left = λ x. kept_keyed kz test (kx x) (over (Some x) None) (o.left x);
+  right = λ y. kept_keyed kz test (ky y) (over None (Some y)) (o.right y);
+  both = λ x y e. kept_keyed kz test (kx x) (over (Some x) (Some y)) (o.both x y e);
+}
 
 -- ---- the overlay
 

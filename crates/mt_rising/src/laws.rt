@@ -1,5 +1,5 @@
 //! Laws of rising lists: functions that do nothing, and whose clauses are proved.
-ghost use Rattle.std.specs.Prelude.{◌≡◌, ℕ, ◌<◌, Bool, true, not, ◌&&◌, List, ◌++◌, filter, Option, Some, None, IfSome, if◌then◌else◌, option_map, ◌↔◌};
+ghost use Rattle.std.specs.Prelude.{◌≡◌, ℕ, ◌<◌, Bool, true, false, not, ◌&&◌, List, ◌++◌, map, filter, Option, Some, None, IfSome, if◌then◌else◌, option_map, ◌↔◌};
 ghost use Rattle.std.specs.Cmp.{IsTotalOrder};
 ghost use Rattle.std.specs.FinMap.Entries.{find, is_sorted};
 ghost use Rattle.std.specs.Ordering.{is_le, ordering_then};
@@ -29,9 +29,16 @@ pub fn pairs_are_ordered<A, B>()
         → (below_by (λ (x y : A × B). ordering_then (first x.0 y.0) (second x.1 y.1)) a b ≡ pair_below (below_by first) (below_by second) a b) }
 {}
 
-/// A key is up to the lesser of two ends exactly where it is up to both.
-pub fn lesser_end_is_within_both<K>()
-    ensures { (lt : K → K → Bool) (a b : Option K) (k : K) → IsOrder lt → (is_upto lt (lesser_end lt a b) k ≡ (is_upto lt a k && is_upto lt b k)) }
+/// A key is up to the lesser of two ends exactly where it is up to both; where a key is up to an end, so
+/// is each that is not above it.
+pub fn ends_hold_what_is_below<K>()
+    ensures lesser { (lt : K → K → Bool) (a b : Option K) (k : K) → IsOrder lt → (is_upto lt (lesser_end lt a b) k ≡ (is_upto lt a k && is_upto lt b k)) }
+    ensures below { (lt : K → K → Bool) (end : Option K) (l k : K) → IsOrder lt → is_upto lt end l ≡ true → lt l k ≡ false → is_upto lt end k ≡ true }
+{}
+
+/// What stands at a key has that key.
+pub fn element_has_its_key<K, X>()
+    ensures { (lt : K → K → Bool) (key : X → K) (xs : List X) (k : K) → IsOrder lt → IfSome (at_key lt key xs k) (λ x. key x ≡ k) }
 {}
 
 /// A rising list is determined by what stands at each key: two lists of one table are one.
@@ -48,6 +55,7 @@ pub fn filtered_list_shows_what_passes<K, X>()
         → (at_key lt key (filter test xs) k ≡ kept test (at_key lt key xs k)) }
     ensures table { (lt : K → K → Bool) (key : X → K) (test : X → Bool) (table : K → Option X) (xs : List X) → IsOrder lt → Lists lt key table xs
         → Lists lt key (λ k. kept test (table k)) (filter test xs) }
+    ensures passes { (lt : K → K → Bool) (key : X → K) (test : X → Bool) (xs : List X) (k : K) → IsOrder lt → IfSome (at_key lt key (filter test xs) k) (λ x. test x ≡ true) }
 {}
 
 /// What has its key in a range is what stands at the keys of the range.
@@ -92,11 +100,21 @@ pub fn joined_lists_show_both<K, X>()
     ensures last { (lt : K → K → Bool) (key : X → K) (xs ys : List X) (l : K) → IsOrder lt → Rising lt key xs → last_key key xs ≡ Some l → Above lt key l ys → Precedes lt key xs ys }
 {}
 
-/// Two rising lists laid over one another list the overlay of the two tables.
+/// A list whose elements are each made into another rises where that one's keys do, and at each key
+/// stands what is made of what stood there.
+pub fn mapped_list_shows_what_is_made<K, X, Y>()
+    ensures rising { (lt : K → K → Bool) (key : Y → K) (f : X → Y) (xs : List X) → (Rising lt key (map f xs) ↔ Rising lt (λ x. key (f x)) xs) }
+    ensures look_up { (lt : K → K → Bool) (key : Y → K) (f : X → Y) (xs : List X) (k : K) → (at_key lt key (map f xs) k ≡ option_map f (at_key lt (λ x. key (f x)) xs k)) }
+{}
+
+/// Two rising lists laid over one another list the overlay of the two tables; an overlay keeps the keys
+/// also where its results must pass a test.
 pub fn merged_lists_show_the_overlay<K, X, Y, Z>()
-    ensures { (lt : K → K → Bool) (kx : X → K) (ky : Y → K) (kz : Z → K) (over : Option X → Option Y → Option Z) (left : K → Option X) (right : K → Option Y) (xs : List X) (ys : List Y)
+    ensures table { (lt : K → K → Bool) (kx : X → K) (ky : Y → K) (kz : Z → K) (over : Option X → Option Y → Option Z) (left : K → Option X) (right : K → Option Y) (xs : List X) (ys : List Y)
         → IsOrder lt → Overlays kx ky kz over → Lists lt kx left xs → Lists lt ky right ys
         → Lists lt kz (λ k. over (left k) (right k)) (merge lt kx ky over xs ys) }
+    ensures test { (kx : X → K) (ky : Y → K) (kz : Z → K) (over : Option X → Option Y → Option Z) (test : Z → Bool) → Overlays kx ky kz over
+        → Overlays kx ky kz (λ x y. kept test (over x y)) }
 {}
 
 /// A list of entries is sorted by a comparison exactly where it is a rising list, and the value found in
