@@ -1,0 +1,3 @@
+pub mod Order
+pub mod Listing
+pub mod Merging
