@@ -340,9 +340,9 @@ fn replies_to_entries(rt: HostRuntime) -> Result<(), Fail> {
         (Ask::Fault, "none", "none"),
     ] {
         let got = answer(alloc, &empty, ask)?;
-        assert!(rt; got.as_str() == at_none, "{got} for {at_none}");
+        assert!(rt; got.as_str() == at_none, "{got}");
         let got = answer(alloc, &filled, ask)?;
-        assert!(rt; got.as_str() == at_rows, "{got} for {at_rows}");
+        assert!(rt; got.as_str() == at_rows, "{got}");
     }
     Ok(())
 }
