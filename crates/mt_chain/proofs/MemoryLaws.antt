@@ -59,12 +59,12 @@ applies_judged m pk puts (Err (Unmet index)) after e room h grew j =
     let unmet = was_unmet m.store (contents_of m) pk puts index j.0 in
     record {
       counted = counted_call m after (ap (λ x. x.store) j.1) (ap (λ x. x.calls) j.1) (ap (λ x. x.faults) j.1) grew (subst IsMemory (sym j.1) (counted_memory m h));
-      shows = unmet_below (contents_of m) pk puts index unmet.unmet;
+      shows = (early m e, unmet_below (contents_of m) pk puts index unmet.unmet);
       judged = (j.0, ap contents_of j.1);
     }
 applies_judged m pk puts (Err Sealed) after e room h grew j = record {
   counted = counted_call m after (ap (λ x. x.store) j.1) (ap (λ x. x.calls) j.1) (ap (λ x. x.faults) j.1) grew (subst IsMemory (sym j.1) (counted_memory m h));
-  shows = tt;
+  shows = early m e;
   judged = (j.0, ap contents_of j.1);
 }
 applies_judged m pk puts (Err Failed) after e room h grew j = absurd j

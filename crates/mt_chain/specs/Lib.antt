@@ -2,6 +2,7 @@ pub mod Rows
 pub mod Puts
 pub mod StoreCall
 pub mod Store
+pub mod Asks
 pub mod Shelf
 pub mod Places
 pub mod Memory

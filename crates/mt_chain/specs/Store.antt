@@ -36,7 +36,7 @@ pub record Counted (s t : Store) : Type 0 where
   pub faults : s.faults ≤ t.faults
   pub contents : IfSome t.told IsContents
 
--- a call is answered Ok only before call 2^62
+-- a call is answered, or refused by what the store holds, only before call 2^62
 abbrev pub Early : Store → Type 0
 Early s = s.calls + 1 < 2 ^ 62
 
@@ -54,8 +54,8 @@ Judged store pk puts (Err NoMemory) before after = after ≡ before
 -- what it says whether the store tells or not
 abbrev pub ApplyShows : List Put → Result (List Tag) KeepFault → Store → Store → Type 0
 ApplyShows puts (Ok tags) s t = Early s × (length tags ≡ length puts)
-ApplyShows puts (Err (Unmet index)) s t = index < length puts
-ApplyShows puts (Err Sealed) s t = Unit {0}
+ApplyShows puts (Err (Unmet index)) s t = Early s × (index < length puts)
+ApplyShows puts (Err Sealed) s t = Early s
 ApplyShows puts (Err Failed) s t = Rose s.faults t.faults
 ApplyShows puts (Err NoMemory) s t = Unit {0}
 

@@ -1,6 +1,7 @@
 //! The contract of a store: rows by key, conditional changes of one partition at a time, ranges, and a seal.
 #![tactic(auto)]
 
+mod ask;
 mod depot;
 mod keeper;
 pub mod laws;
@@ -10,6 +11,7 @@ mod op;
 mod query;
 mod row;
 
+pub use ask::{Ask, CallFault, Side, StoreAsk, StoreReply};
 pub use depot::{Depot, DepotFault};
 pub use keeper::{KeepFault, Keeper};
 pub use mem::{MemDepot, MemKeeper};
