@@ -6,3 +6,4 @@ pub mod Logical
 pub mod Sound
 pub mod Modes
 pub mod Facts
+pub mod Steps

@@ -1,0 +1,8 @@
+//! A batch of operations as store calls: first a read of the rows that it names, then one conditional write.
+#![tactic(auto)]
+
+mod call;
+mod place;
+
+pub use call::{BatchCall, BatchProgress};
+pub use place::Place;
