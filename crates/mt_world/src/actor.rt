@@ -1,0 +1,58 @@
+//! Who takes turns, and what comes of them.
+use mt_batch_plan::BatchCall;
+use mt_chain::{Refusal, Tags};
+use mt_rules::Batch;
+
+/// What a client asks for.
+#[derive(Drop)]
+pub enum Request {
+    /// All operations of a batch at once, or none.
+    Batch(Batch),
+}
+
+/// A client's call.
+#[derive(Drop)]
+pub enum ClientCall {
+    Batch(BatchCall),
+
+    /// The call was answered, or broke off at its first fault.
+    Ended,
+}
+
+/// Who takes a turn.
+#[derive(Drop)]
+pub enum Actor {
+    Client(ClientCall),
+}
+
+/// What a call is answered.
+#[derive(Drop)]
+pub enum Answer {
+    /// The batch was applied: one tag for each operation, that of the row that it wrote, or for a
+    /// delete that of the row that went.
+    Written(Tags),
+
+    /// An operation refuses the batch, and nothing changed.
+    Refused(Refusal),
+}
+
+/// What a turn came to.
+#[derive(Drop)]
+pub enum Progress {
+    /// The actor goes on.
+    More,
+    Done(Answer),
+}
+
+/// Why a turn came to nothing.
+#[derive(Clone, Copy, Debug, PartialEq, Eq)]
+pub enum TurnFault {
+    /// The store call failed; its store's count of faults rose, and the history has an entry of it.
+    StoreFault,
+
+    /// The history has no room for the turn's need, and no call was made.
+    HistoryFull,
+
+    /// The allocator had no memory; no row changed, and no entry was added.
+    NoMemory,
+}

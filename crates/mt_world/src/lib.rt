@@ -1,0 +1,10 @@
+//! Two stores that answer as one table, one store call and one history entry at a time.
+#![tactic(auto)]
+
+mod actor;
+mod opening;
+mod world;
+
+pub use actor::{Actor, Answer, ClientCall, Progress, Request, TurnFault};
+pub use opening::{NotOpened, OpenFault};
+pub use world::{Stores, World};
