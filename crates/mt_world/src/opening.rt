@@ -17,6 +17,6 @@ pub enum OpenFault {
 #[derive(Drop)]
 pub struct NotOpened<K> {
     pub fault: OpenFault,
-    pub old_store: K,
-    pub new_store: K,
+    pub old: K,
+    pub new: K,
 }
