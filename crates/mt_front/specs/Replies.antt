@@ -1,0 +1,53 @@
+-- The bytes of the replies to operations that were done.
+use Rattle.std.specs.Prelude.{◌≡◌, ℕ, List, ◌++◌, length, codes, decimal, None}
+use Rattle.mt_model.specs.declared.key.Key.{Key}
+use Rattle.mt_model.specs.declared.tag.Tag.{Tag}
+use Rattle.mt_model.specs.declared.value.Prop.{Prop}
+use Rattle.mt_model.specs.Tag.{tag_text}
+use Rattle.mt_json.specs.declared.write.Level.TheVariants.{Minimal}
+use Rattle.mt_json.specs.Written.{IsWritten}
+use Rattle.mt_chain.specs.declared.op.Op.{Op}
+use Rattle.mt_chain.specs.declared.op.Op.TheVariants.{Insert, Replace, Merge, Delete, InsertOrReplace, InsertOrMerge}
+use Rattle.mt_front.specs.declared.asks.Echo.{Echo}
+use Rattle.mt_front.specs.declared.asks.Echo.TheVariants.{Entity, NoContent, Plain}
+
+-- 201 with the entity, where this is its text
+abbrev pub created_reply : Tag → List ℕ → List ℕ
+created_reply tag text = codes "HTTP/1.1 201 Created\r\nContent-Type: application/json\r\nETag: " ++ tag_text tag
+    ++ codes "\r\nContent-Length: " ++ decimal (length text) ++ codes "\r\n\r\n" ++ text
+
+-- 204 with the new tag
+abbrev pub tagged_reply : Tag → List ℕ
+tagged_reply tag = codes "HTTP/1.1 204 No Content\r\nETag: " ++ tag_text tag ++ codes "\r\n\r\n"
+
+-- 204 with the new tag, and that the preference was met
+abbrev pub no_content_reply : Tag → List ℕ
+no_content_reply tag = codes "HTTP/1.1 204 No Content\r\nETag: " ++ tag_text tag ++ codes "\r\nPreference-Applied: return-no-content\r\n\r\n"
+
+-- 204 alone
+abbrev pub gone_reply : List ℕ
+gone_reply = codes "HTTP/1.1 204 No Content\r\n\r\n"
+
+-- the entity that an insert wrote, as its text
+abbrev pub IsCreatedReply : Key → List Prop → Tag → List ℕ → Type 0
+IsCreatedReply key props tag reply = (text : List ℕ) × IsWritten (record { key = key; props = props; tag = tag }) Minimal None text × (reply ≡ created_reply tag text)
+
+-- the reply to an operation that was done, whose row has this tag; where the row went there is none to show
+abbrev pub IsDoneReply : Echo → Op → Tag → List ℕ → Type 0
+IsDoneReply Entity (Insert key props) tag reply = IsCreatedReply key props tag reply
+IsDoneReply NoContent (Insert key props) tag reply = reply ≡ no_content_reply tag
+IsDoneReply Plain (Replace key props cond) tag reply = reply ≡ tagged_reply tag
+IsDoneReply Plain (Merge key props cond) tag reply = reply ≡ tagged_reply tag
+IsDoneReply Plain (InsertOrReplace key props) tag reply = reply ≡ tagged_reply tag
+IsDoneReply Plain (InsertOrMerge key props) tag reply = reply ≡ tagged_reply tag
+IsDoneReply Plain (Delete key cond) tag reply = reply ≡ gone_reply
+IsDoneReply echo op tag reply = ⊥
+
+-- the echo is one that the operation can have
+abbrev pub HasEcho : Echo → Op → Type 0
+HasEcho Entity (Insert key props) = Unit {0}
+HasEcho NoContent (Insert key props) = Unit {0}
+HasEcho Plain (Insert key props) = ⊥
+HasEcho Entity op = ⊥
+HasEcho NoContent op = ⊥
+HasEcho Plain op = Unit {0}
