@@ -1,3 +1,5 @@
 pub mod Refusals
 pub mod Asks
 pub mod Replies
+pub mod Answers
+pub mod Session

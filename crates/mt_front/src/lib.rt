@@ -3,6 +3,8 @@
 
 mod asks;
 mod refusals;
+mod session;
 
 pub use asks::{Asked, Echo};
 pub use refusals::BadRequest;
+pub use session::{ConnFault, End, Served};
