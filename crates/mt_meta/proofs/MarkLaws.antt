@@ -43,7 +43,7 @@ visible_step true which p qs e h =
 visible_step false which p qs e h = h
 
 -- no visible property has a hidden one's name
-visible_value : (which : Hidden) (ps : List Prop) → value_at (filter is_visible ps) (hidden_name which) ≡ None
+pub visible_value : (which : Hidden) (ps : List Prop) → value_at (filter is_visible ps) (hidden_name which) ≡ None
 visible_value which [] = refl
 visible_value which (p ∷ ps) = visible_step (is_visible p) which p (filter is_visible ps) refl (visible_value which ps)
 
