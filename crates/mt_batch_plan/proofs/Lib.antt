@@ -1,2 +1,4 @@
 pub mod OnRows
 pub mod OnTags
+pub mod OnRead
+pub mod OneOrder
