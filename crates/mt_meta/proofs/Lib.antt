@@ -4,3 +4,4 @@ pub mod Rules
 pub mod ShownLaws
 pub mod ModeLaws
 pub mod Growth
+pub mod StorePuts
