@@ -5,3 +5,4 @@ pub mod ShownLaws
 pub mod ModeLaws
 pub mod Growth
 pub mod StorePuts
+pub mod Parts
