@@ -1,19 +1,21 @@
 -- What puts do to one store: it changes in their partition alone, its tags go on, and each row is the one before or what a put left.
-use Rattle.std.proofs.Common.{◌≡◌, ◌≢◌, ◌⊎◌, ℕ, ◌+◌, ◌≤◌, Bool, true, false, cond, ◌&&◌, List, [], ◌∷◌, Option, Some, None, refl, sym, ap, ◌∙◌, subst, arith, inl, inr, bytes_eq, if◌then◌else◌}
+use Rattle.std.proofs.Common.{◌≡◌, ◌≢◌, ◌⊎◌, ℕ, ◌+◌, ◌≤◌, Bool, true, false, cond, ◌&&◌, List, [], ◌∷◌, Option, Some, None, refl, sym, ap, ◌∙◌, subst, arith, inl, inr, bytes_eq, is_none, ◌==◌, if◌then◌else◌}
+use Rattle.std.proofs.lemmas.Bool.{and_parts}
+use Rattle.std.proofs.lemmas.Bool.Decides.{nat_tests}
 use Rattle.mt_model.specs.declared.tag.Tag.{Tag}
 use Rattle.mt_model.specs.declared.value.Prop.{Prop}
 use Rattle.mt_chain.specs.declared.row.Stored.{Stored}
 use Rattle.mt_chain.specs.declared.row.Put.{Put}
 use Rattle.mt_chain.specs.declared.row.Put.TheVariants.{Check, Insert, Replace, Delete}
 use Rattle.mt_chain.specs.Rows.{Rows, row_at, with_row, without_row}
-use Rattle.mt_chain.specs.Puts.{row_key, next_tag, counter_after, rows_after}
+use Rattle.mt_chain.specs.Puts.{row_key, is_same_tag, has_tag, next_tag, counter_after, rows_after}
 use Rattle.mt_chain.specs.StoreCall.{Contents}
 use Rattle.mt_chain.proofs.KeyLaws.{text_true}
 use Rattle.mt_chain.proofs.RowLaws.{row_at-with_row, row_at-without_row}
 use Rattle.mt_chain.proofs.PutLaws.{left_by, row_after, elsewhere, Each}
 use Rattle.mt_chain.proofs.JudgeLaws.{contents_after}
 use Rattle.mt_meta.specs.Sound.{AreTags}
-use Rattle.mt_meta.specs.Facts.{Ages}
+use Rattle.mt_meta.specs.Facts.{KnowsRow, Ages}
 use Rattle.mt_meta.proofs.Growth.{ages_self}
 
 -- ---- tags
@@ -35,7 +37,7 @@ then_tags store a b c f g = record {
   tags = λ h. g.tags (f.tags h);
 }
 
-the_row : (s r : Stored) → Some s ≡ Some r → s ≡ r
+pub the_row : (s r : Stored) → Some s ≡ Some r → s ≡ r
 the_row s r e = ap (λ (x : Option Stored). elim x as (λ _. Stored) [ None ↦ s | Some y ↦ y ]) e
 
 -- a row that is there after one was put is that one, at its key, or was there
@@ -180,3 +182,31 @@ touched P store n (put ∷ puts) q row h =
         | false ↦ λ e is. inl is
       ] refl same
     ]
+
+-- ---- conditions that held
+
+same_tag : (a b : Tag) → is_same_tag a b ≡ true → b ≡ a
+same_tag a b h =
+    let both = and_parts (a.store == b.store) (a.n == b.n) h in
+    let store_is : b.store ≡ a.store = (let e = both.0 in grind (arith, nat_tests)) in
+    let n_is : b.n ≡ a.n = (let e = both.1 in grind (arith, nat_tests)) in
+    λ i. record { store = store_is i; n = n_is i }
+
+-- a row is there with that tag and those properties
+pub record IsSeen (x : Option Stored) (ps : List Prop) (t : Tag) : Type 0 where
+  pub row : Stored
+  pub is : x ≡ Some row
+  pub props : row.props ≡ ps
+  pub tag : row.tag ≡ t
+
+tagged : (x : Option Stored) (tag : Tag) → has_tag tag x ≡ true → (r : Stored) × (x ≡ Some r) × (r.tag ≡ tag)
+tagged None tag h = absurd cc
+tagged (Some r) tag h = (r, refl, same_tag tag r.tag h)
+
+-- a row that is known by its tag, and has it still, is as it was
+pub seen : (c : Contents) (pk rk : List ℕ) (props : List Prop) (tag : Tag) → KnowsRow c pk rk props tag → has_tag tag (row_at c.rows pk rk) ≡ true → IsSeen (row_at c.rows pk rk) props tag
+seen c pk rk props tag k h = (let x = tagged (row_at c.rows pk rk) tag h in record { row = x.0; is = x.1; props = k.same x.0 x.1 x.2; tag = x.2 })
+
+pub no_row : (x : Option Stored) → is_none x ≡ true → x ≡ None
+no_row None h = refl
+no_row (Some r) h = absurd cc
