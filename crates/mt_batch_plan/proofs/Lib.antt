@@ -1,3 +1,4 @@
+pub mod OldChanges
 pub mod OnRows
 pub mod OnTags
 pub mod OnRead
