@@ -3,3 +3,4 @@ pub mod OnRows
 pub mod OnTags
 pub mod OnRead
 pub mod OneOrder
+pub mod Writing

@@ -8,6 +8,7 @@ use Rattle.std.proofs.lemmas.List.Elements.{All-from_recursion, recursion_from_A
 use Rattle.std.proofs.lemmas.List.Sorted.{All-permutation, IsPermutation-sym}
 use Rattle.std.proofs.lemmas.List.Kept.{AllPairs-cons}
 use Rattle.std.proofs.lemmas.Map.Keys.{IsDistinct-IsPermutation}
+use Rattle.mt_model.specs.declared.key.Key.{Key}
 use Rattle.mt_model.specs.declared.tag.Tag.{Tag}
 use Rattle.mt_model.specs.declared.value.Prop.{Prop}
 use Rattle.mt_chain.specs.declared.row.Stored.{Stored}
@@ -40,15 +41,15 @@ told_effect (Delete key c) (Some r) (Some w) tag = refl
 told_effect (InsertOrReplace key props) row was tag = refl
 told_effect (InsertOrMerge key props) row was tag = refl
 
-pub answered_applied : (ops : List Op) (tags : List Tag) (table other : Table) (row : Option Stored) (key : _)
+pub answered_applied : (ops : List Op) (tags : List Tag) (table : Table) (row : Option Stored) (key : Key)
     → row_after (op_at (zip ops (tags_answered ops tags table)) key) row ≡ row_after (op_at (zip ops tags) key) row
-answered_applied [] tags table other row key = refl
-answered_applied (op ∷ ops) [] table other row key = refl
-answered_applied (op ∷ ops) (tag ∷ tags) table other row key =
+answered_applied [] tags table row key = refl
+answered_applied (op ∷ ops) [] table row key = refl
+answered_applied (op ∷ ops) (tag ∷ tags) table row key =
     elim (names key op) as (λ b. row_after (cond b (Some (op, told_tag op (table (op_key op)) tag)) (op_at (zip ops (tags_answered ops tags table)) key)) row
     ≡ row_after (cond b (Some (op, tag)) (op_at (zip ops tags) key)) row) [
       | true ↦ ap (λ made. left_by made row) (told_effect op row (table (op_key op)) tag)
-      | false ↦ answered_applied ops tags table other row key
+      | false ↦ answered_applied ops tags table row key
     ]
 
 -- the tags of the operations that leave rows
