@@ -4,3 +4,4 @@ pub mod OnTags
 pub mod OnRead
 pub mod OneOrder
 pub mod Writing
+pub mod BatchLaw

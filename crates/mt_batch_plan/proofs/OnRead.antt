@@ -1,44 +1,35 @@
 -- What the rows that a batch reads say of the store, and when its puts hold.
-use Rattle.std.proofs.Common.{◌≡◌, ◌≢◌, ℕ, suc, ◌+◌, ◌<◌, ◌≤◌, Bool, true, false, cond, ◌||◌, ◌&&◌, ◌==◌, List, [], ◌∷◌, map, length, get_or, refl, sym, ap, ◌∙◌, subst, arith, eq-eqb, inl, inr, ◌⊎◌, bytes_eq, Some, None, Option, Result, Ok, Err, All, Contains, filter}
-use Rattle.std.specs.Prelude.{option_map, is_none, find}
+use Rattle.std.proofs.Common.{◌≡◌, ◌≢◌, ℕ, Bool, true, false, cond, ◌||◌, ◌==◌, List, [], ◌∷◌, map, refl, sym, ap, ◌∙◌, subst, arith, eq-eqb, bytes_eq, Some, None, Option, Ok, Err, filter}
+use Rattle.std.specs.Prelude.{option_map, is_none}
 use Rattle.std.proofs.lemmas.Bool.Decides.{nat_tests}
 use Rattle.std.proofs.lemmas.Bool.{and_parts}
-use Rattle.std.specs.List.{list_any, AllByRecursion, cons_option}
-use Rattle.std.specs.List.Sorted.{IsPermutation, IsStrictlySortedBy}
+use Rattle.std.specs.List.{AllByRecursion, cons_option}
 use Rattle.std.specs.Option.{option_or}
 use Rattle.std.specs.Str.{chars}
-use Rattle.std.specs.Result.{result_err}
-use Rattle.std.specs.Ordering.{nat_cmp}
-use Rattle.std.specs.declared.cmp.Ordering.TheVariants.{Less}
-use Rattle.std.specs.Cmp.{tied_itself}
-use Rattle.std.specs.Cmp.Lexicographic.{slice_cmp, nat_list_cmp_total}
-use Rattle.std.proofs.lemmas.List.Sorted.{Contains-permutation, IsPermutation-sym, list_any-IsPermutation}
-use Rattle.mt_model.specs.declared.key.Key.{Key}
+use Rattle.std.proofs.lemmas.List.Sorted.{list_any-IsPermutation}
 use Rattle.mt_model.specs.declared.key.KeyPart.TheVariants.{Partition, Row}
 use Rattle.mt_model.specs.declared.tag.Tag.{Tag}
-use Rattle.mt_model.specs.declared.value.Prop.{Prop}
 use Rattle.mt_model.specs.Key.{part_fault, key_fault}
 use Rattle.mt_model.specs.Props.{is_visible}
 use Rattle.mt_chain.specs.declared.row.Stored.{Stored}
 use Rattle.mt_chain.specs.declared.row.StoredRow.{StoredRow}
-use Rattle.mt_chain.specs.declared.row.Put.{Put}
 use Rattle.mt_chain.specs.declared.op.Op.{Op}
 use Rattle.mt_chain.specs.declared.op.Op.TheVariants.{Insert, Replace, Merge, Delete, InsertOrReplace, InsertOrMerge}
 use Rattle.mt_chain.specs.Rows.{Rows, row_at, shown, named_rows}
-use Rattle.mt_chain.specs.Puts.{row_key, holds, has_tag, is_same_tag}
+use Rattle.mt_chain.specs.Puts.{holds, has_tag, is_same_tag}
 use Rattle.mt_chain.specs.StoreCall.{Contents}
-use Rattle.mt_chain.specs.Effect.{Outcome, op_key, op_props, effect, any_tag, cause_on, left_by}
+use Rattle.mt_chain.specs.Effect.{Outcome, op_key, effect, any_tag, cause_on, left_by}
 use Rattle.mt_chain.proofs.KeyLaws.{text_true, text_same}
 use Rattle.mt_chain.proofs.PutLaws.{Each, Held}
 use Rattle.mt_rules.specs.Batches.{MayAsk}
 use Rattle.mt_meta.specs.Markers.{marker_key}
-use Rattle.mt_meta.specs.Logical.{Pair, old_at}
+use Rattle.mt_meta.specs.Logical.{Pair}
 use Rattle.mt_meta.specs.Sound.{AreTags}
 use Rattle.mt_meta.specs.Facts.{InOld, KnowsRow, is_in, row_in}
 use Rattle.mt_meta.specs.Steps.{AllHold, row_facts}
 use Rattle.mt_batch_plan.specs.Calls.{kept_row, kept_in, seen_row, put_of, put_for, AreNames}
 use Rattle.mt_batch_plan.proofs.OldChanges.{written_props, IsClientPut}
-use Rattle.mt_batch_plan.proofs.OnRows.{AreVisible, all_visible, RowVisible, seen_visible, WritesVisible, writes_visible, put_key}
+use Rattle.mt_batch_plan.proofs.OnRows.{all_visible, RowVisible, seen_visible, WritesVisible, writes_visible, put_key}
 use Rattle.mt_batch_plan.proofs.OnTags.{IsAccepted}
 
 -- ---- the rows that were read
@@ -140,7 +131,7 @@ has : (tag : Tag) (o : Option Stored) → has_tag tag o ≡ true → Tagged tag 
 has tag None h = absurd cc
 has tag (Some s) h = record { row = s; there = refl; is = tag_is tag s.tag h }
 
-has_itself : (s : Stored) → has_tag s.tag (Some s) ≡ true
+pub has_itself : (s : Stored) → has_tag s.tag (Some s) ≡ true
 has_itself s = rw (eq-eqb s.tag.store s.tag.store refl, eq-eqb s.tag.n s.tag.n refl) refl
 
 -- what is known of the row that was read at a key
@@ -185,11 +176,7 @@ still_read store c pk rows (op ∷ ops) tags knows h =
       still_read store c pk rows ops tags knows h.1,
     )
 
--- an operation that is accepted where no row is leaves one
-LeavesOne : Outcome → Type 0
-LeavesOne (Ok (Some row)) = Unit {0}
-LeavesOne made = ⊥
-
+-- a put on the row that is there holds; an operation that is accepted where no row is leaves one
 put_holds : (op : Op) (rk : List ℕ) (row : Option Stored) → cause_on op (seen_row row) ≡ None → holds (put_of rk row (left_by (effect op (seen_row row) any_tag) None)) row ≡ true
 put_holds op rk (Some s) accepted = go (left_by (effect op (seen_row (Some s)) any_tag) None) where
   go : (made : Option Stored) → holds (put_of rk (Some s) made) (Some s) ≡ true

@@ -1,30 +1,24 @@
 -- A write of old that is done is the batch.
-use Rattle.std.proofs.Common.{◌≡◌, ◌≢◌, ◌⊎◌, ℕ, ◌+◌, ◌<◌, ◌≤◌, Bool, true, false, cond, ◌||◌, ◌&&◌, List, [], ◌∷◌, map, length, refl, sym, ap, ◌∙◌, subst, arith, inl, inr, bytes_eq, Some, None, Option, is_some, option_map, All}
-use Rattle.std.specs.List.{list_any, zip, AllByRecursion, AllPairs}
-use Rattle.std.specs.List.Sorted.{IsPermutation}
+use Rattle.std.proofs.Common.{◌≡◌, ◌≢◌, ℕ, ◌≤◌, Bool, true, false, cond, ◌&&◌, List, [], ◌∷◌, map, refl, sym, ap, ◌∙◌, subst, arith, inl, inr, bytes_eq, Some, None, Option, is_some, option_map, All}
+use Rattle.std.specs.List.{zip, AllByRecursion, AllPairs}
 use Rattle.std.proofs.lemmas.List.Elements.{All-from_recursion, recursion_from_All}
 use Rattle.std.proofs.lemmas.List.Sorted.{All-permutation, IsPermutation-sym}
 use Rattle.mt_model.specs.declared.key.Key.{Key}
 use Rattle.mt_model.specs.declared.tag.Tag.{Tag}
-use Rattle.mt_chain.specs.declared.row.Stored.{Stored}
 use Rattle.mt_chain.specs.declared.row.StoredRow.{StoredRow}
-use Rattle.mt_chain.specs.declared.row.Put.{Put}
 use Rattle.mt_chain.specs.declared.op.Op.{Op}
 use Rattle.mt_chain.specs.declared.op.Refusal.{Refusal}
-use Rattle.mt_chain.specs.Rows.{row_at, key_at}
-use Rattle.mt_chain.specs.Puts.{tag_of, tags_of, counter_after, all_counter_after}
-use Rattle.mt_chain.specs.StoreCall.{Contents}
-use Rattle.mt_chain.specs.Table.{Table, IsSameTable}
-use Rattle.mt_chain.specs.Effect.{op_key, op_props}
-use Rattle.mt_chain.specs.Batch.{Tagged, cause_in, refusal_of, names, op_at, row_after, batch_applied, unless_refusal, tags_answered, IsReordered}
+use Rattle.mt_chain.specs.Rows.{key_at}
+use Rattle.mt_chain.specs.Puts.{tags_of, all_counter_after}
+use Rattle.mt_chain.specs.Table.{IsSameTable}
+use Rattle.mt_chain.specs.Effect.{op_key}
+use Rattle.mt_chain.specs.Batch.{Tagged, refusal_of, names, op_at, row_after, batch_applied, unless_refusal, tags_answered, IsReordered}
 use Rattle.mt_chain.proofs.KeyLaws.{is_tied, text_true, text_false, text_differs}
-use Rattle.mt_chain.proofs.PutLaws.{Each, Held, counter_one}
-use Rattle.mt_chain.proofs.PutLaws as puts
 use Rattle.mt_chain.proofs.BatchLaws.{none_refuses, same_refusal, refused_alike, reordered}
 use Rattle.mt_rules.specs.Batches.{MayAsk, IsBatch, partition_of}
 use Rattle.mt_history.specs.Legal.{is_write, tags_written, IsGone}
 use Rattle.mt_meta.specs.Markers.{marker_key}
-use Rattle.mt_meta.specs.Logical.{Pair, from_old, logical, old_at}
+use Rattle.mt_meta.specs.Logical.{Pair, logical, old_at}
 use Rattle.mt_meta.specs.Steps.{as_row, logical_table}
 use Rattle.mt_meta.proofs.Rules.{key_cases}
 use Rattle.mt_batch_plan.specs.Calls.{kept_in, seen_row, table_seen, put_for, IsInOrder, AnswersTags}
@@ -59,7 +53,7 @@ pub ops_of : (ops : List Op) → IsBatch ops → AllByRecursion (IsOf (partition
 ops_of ops batch = both_all (λ op. (op_key op).pk ≡ partition_of ops) MayAsk ops (recursion_from_All _ ops batch.partition) (recursion_from_All MayAsk ops batch.rules)
 
 -- a client's row key
-row_key_of : (pk : List ℕ) (op : Op) → IsOf pk op → (op_key op).rk ≢ marker_key
+pub row_key_of : (pk : List ℕ) (op : Op) → IsOf pk op → (op_key op).rk ≢ marker_key
 row_key_of pk op h = other_key (op_key op).pk (op_key op).rk h.1.key
 
 -- ---- one write
@@ -119,8 +113,8 @@ module _ (ops : List Op) (rows : List StoredRow) (sorted : List Op) (p : Pair) (
     go [] f g = tt
     go (op ∷ xs) f g = (
       ap (λ pk. option_map as_row (logical p pk (op_key op).rk)) f.0.0
-      ∙ ap (option_map as_row) (w.changed.was (op_key op).rk (row_key_of (partition_of ops) op f.0))
-      ∙ ap seen_row g.0,
+          ∙ ap (option_map as_row) (w.changed.was (op_key op).rk (row_key_of (partition_of ops) op f.0))
+          ∙ ap seen_row g.0,
       go xs f.1 g.1,
     )
 
@@ -137,7 +131,7 @@ module _ (ops : List Op) (rows : List StoredRow) (sorted : List Op) (p : Pair) (
         ap (λ k. option_map as_row (logical q (partition_of ops) k)) is
         ∙ ap (λ k. option_map as_row (logical p (partition_of ops) k)) (sym is)
         ∙ ap (λ o. row_after o (logical_table p (key_at (partition_of ops) rk))) (sym (none_named sorted (tags_of p.old_number n (map (put_for rows) sorted)) (key_at (partition_of ops) rk)
-            (each_all (IsOf (partition_of ops)) (λ op. names (key_at (partition_of ops) rk) op ≡ false) (λ op h. not_marker (partition_of ops) (key_at (partition_of ops) rk) op h is) sorted of_sorted)))
+        (each_all (IsOf (partition_of ops)) (λ op. names (key_at (partition_of ops) rk) op ≡ false) (λ op h. not_marker (partition_of ops) (key_at (partition_of ops) rk) op h is) sorted of_sorted)))
     | inr other ↦
         ap (option_map as_row) (w.changed.now rk other)
         ∙ rows_show p.old_number n rows (partition_of ops) (old_at p (partition_of ops)) sorted rk (stands sorted of_sorted w.still accepted_all) w.order.rising
@@ -151,7 +145,7 @@ module _ (ops : List Op) (rows : List StoredRow) (sorted : List Op) (p : Pair) (
     go false is =
         ap (option_map as_row) ((w.changed.step []).others key.pk key.rk (λ same. text_differs (partition_of ops) key.pk is (sym same)))
         ∙ ap (λ o. row_after o (logical_table p key)) (sym (none_named sorted (tags_of p.old_number n (map (put_for rows) sorted)) key
-            (each_all (IsOf (partition_of ops)) (λ op. names key op ≡ false) (λ op h. elsewhere (partition_of ops) key op h is) sorted of_sorted)))
+        (each_all (IsOf (partition_of ops)) (λ op. names key op ≡ false) (λ op h. elsewhere (partition_of ops) key op h is) sorted of_sorted)))
 
   -- the same in the order of the batch
   shows_batch : (by_op : List Tag) → IsReordered ops by_op sorted (tags_of p.old_number n (map (put_for rows) sorted)) → IsSameTable (logical_table q) (batch_applied ops by_op (logical_table p))
@@ -165,10 +159,10 @@ module _ (ops : List Op) (rows : List StoredRow) (sorted : List Op) (p : Pair) (
   fresh_by by_op same =
       let m = all_counter_after n (map (put_for rows) sorted) in
       All-from_recursion (IsFresh p.old q.old p.old_number) (tags_written ops by_op) (written_all (IsFresh p.old q.old p.old_number) (zip ops by_op)
-          (each_all (IsGivenBetween p.old_number n m) (λ (o : Tagged). is_write o.0 ≡ true → IsFresh p.old q.old p.old_number o.1)
-              (λ o h does. (let g = h does in record { store_is = g.0; above = omega (arith, g.1, w.above); within = omega (arith, g.2, w.counter) }))
-              (zip ops by_op)
-              (given_reordered p.old_number n m (zip sorted (tags_of p.old_number n (map (put_for rows) sorted))) (zip ops by_op) same.2 (all_given p.old_number n rows sorted accepted_all))))
+      (each_all (IsGivenBetween p.old_number n m) (λ (o : Tagged). is_write o.0 ≡ true → IsFresh p.old q.old p.old_number o.1)
+      (λ o h does. (let g = h does in record { store_is = g.0; above = omega (arith, g.1, w.above); within = omega (arith, g.2, w.counter) }))
+      (zip ops by_op)
+      (given_reordered p.old_number n m (zip sorted (tags_of p.old_number n (map (put_for rows) sorted))) (zip ops by_op) same.2 (all_given p.old_number n rows sorted accepted_all))))
 
   answered : (by_op : List Tag) → IsReordered ops by_op sorted (tags_of p.old_number n (map (put_for rows) sorted)) → IsWritten ops (tags_answered ops by_op (table_seen rows)) p q
   answered by_op same = record {
