@@ -1,0 +1,4 @@
+mod ChangeLaws
+mod AnswerLaws
+mod TagLaws
+mod MemoryLaws

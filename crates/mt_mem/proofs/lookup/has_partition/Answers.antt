@@ -1,0 +1,16 @@
+use Rattle.std.proofs.Common.{rules, ◌∙◌}
+use Rattle.std.proofs.lemmas.Fn.{always_returns_same}
+use Rattle.std.specs.Ordering.{nat_cmp}
+use Rattle.std.specs.Cmp.Lexicographic.{slice_cmp}
+use Rattle.mt_chain.proofs.OrderLaws.{partition_rises}
+use Rattle.mt_chain.proofs.SearchLaws.{search_ends, has_partition_by}
+use Rattle.mt_mem.proofs.lookup.has_partition.Goals as goal
+
+pub returns : goal.returns
+returns c =
+    let pk = c.args.pk.now in
+    let found = c.binary_search_by-found.ensures in
+    c.is_ok.ensures.value
+    ∙ has_partition_by pk c.args.rows.now c.binary_search_by-found.result
+    (search_ends (λ k. slice_cmp nat_cmp k.pk pk) (partition_rises pk) c.args.rows.now c.binary_search_by-found.result c.requires found.bound
+    (found.position (λ e. slice_cmp nat_cmp e.0.pk pk) (always_returns_same _ _ _ (λ a r f called. search rules))))
