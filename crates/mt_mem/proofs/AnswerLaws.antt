@@ -1,6 +1,7 @@
 -- Answers to queries: their order, and that they fit what was asked.
-use Rattle.std.proofs.Common.{◌≡◌, ℕ, zero, suc, ◌+◌, ◌<◌, ◌≤◌, Bool, true, false, cond, not, ◌&&◌, ◌||◌, List, [], ◌∷◌, ◌++◌, map, length, take, get_or, take-suc, filter, option_map, refl, sym, ap, ◌∙◌, subst, inl, inr, arith, bytes_eq, Some, None, Option, Less, Ordering, IsTrue, All, Contains}
+use Rattle.std.proofs.Common.{◌≡◌, ℕ, zero, suc, ◌+◌, ◌<◌, ◌≤◌, Bool, true, false, cond, not, ◌&&◌, ◌||◌, List, [], ◌∷◌, ◌++◌, map, length, take, get_or, take-suc, filter, option_map, refl, sym, ap, ◌∙◌, subst, inl, inr, arith, bytes_eq, Some, None, Option, Less, Ordering, IsTrue, All, Contains, nat_lt}
 use Rattle.std.proofs.lemmas.Bool.{and_parts, cases_lt, cases_eq, not-false}
+use Rattle.std.proofs.lemmas.List.{length-map}
 use Rattle.std.proofs.lemmas.List.Elements.{All-from_recursion, filter_map-append}
 use Rattle.std.specs.List.{AllByRecursion, list_any, cons_option}
 use Rattle.std.specs.List.Sorted.{IsStrictlySortedBy}
@@ -16,7 +17,7 @@ use Rattle.mt_chain.specs.declared.query.PkFrom.{PkFrom}
 use Rattle.mt_chain.specs.declared.query.Range.{Range}
 use Rattle.mt_chain.specs.declared.query.RangeQuery.{RangeQuery}
 use Rattle.mt_chain.specs.declared.query.Found.{Found}
-use Rattle.mt_chain.specs.Rows.{Rows, are_rising, row_at, shown, named_rows, rows_within, is_within, limited, has_partition, is_past}
+use Rattle.mt_chain.specs.Rows.{Rows, are_rising, row_at, shown, named_rows, rows_within, is_within, limited, is_beyond, has_partition, is_past}
 use Rattle.mt_chain.specs.Places.{IsCut, is_passed}
 use Rattle.mt_chain.specs.StoreCall.{Contents, IsFound, FitsQuery, FitsRange, AtMost, IsNext, range_answer, range_has_more}
 use Rattle.mt_chain.proofs.KeyLaws.{text_true, text_same}
@@ -118,6 +119,10 @@ map_take f (suc n) (x ∷ xs) = ap (λ ys. f x ∷ ys) (map_take f n xs)
 pub map_limited : {X Y : Type 0} (f : X → Y) (limit : Option ℕ) (xs : List X) → map f (limited limit xs) ≡ limited limit (map f xs)
 map_limited f None xs = refl
 map_limited f (Some n) xs = map_take f n xs
+
+pub map_beyond : {X Y : Type 0} (f : X → Y) (limit : Option ℕ) (xs : List X) → is_beyond limit (map f xs) ≡ is_beyond limit xs
+map_beyond f None xs = refl
+map_beyond f (Some n) xs = ap (nat_lt n) (length-map xs f)
 
 -- ---- an answer fits what was asked
 

@@ -1,4 +1,8 @@
-mod ChangeLaws
+mod RewriteLaws
+mod EntryLaws
+mod EditLaws
+mod PassLaws
+mod PlanLaws
 mod AnswerLaws
 mod TagLaws
 mod MemoryLaws

@@ -1,21 +1,22 @@
 //! Answers to queries: copies of rows.
 ghost use Rattle.std.specs.Prelude.{◌≡◌, ℕ, IsTrue, IfOk, IfSome, bytes_eq, map, length, Option, Some};
-ghost use Rattle.mt_chain.specs.Rows.{are_rising, shown, named_rows, rows_within, limited, is_beyond, is_past};
+ghost use Rattle.mt_chain.specs.Rows.{are_rising, named_rows, rows_within, limited, is_beyond, is_past};
 ghost use Rattle.mt_chain.specs.StoreCall.{CanQuery, IsFound, IsNext, range_answer, range_has_more};
+ghost use Rattle.mt_mem.specs.Entries.{entries};
 
 use crate::lookup::{Row, place_past, row_at, rows_within};
-use mt_chain::{Found, PkFrom, Range, RangeQuery, Stored, StoredRow, StoredRows};
+use mt_chain::{Found, PkFrom, Range, RangeQuery, StoredRow, StoredRows};
 use mt_model::{NoMemory, Text};
 use std::alloc::Global;
 
-/// A copy of a row, as a store answers it.
-fn shown(alloc: Global, rk: &Text, stored: &Stored) -> Result<StoredRow, NoMemory>
-    ensures { IfOk result (λ r. r ≡ shown rk.now stored.now) }
+/// A copy of a row.
+fn copy_row(alloc: Global, row: &StoredRow) -> Result<StoredRow, NoMemory>
+    ensures { IfOk result (λ r. r ≡ row.now) }
 {
     Ok(StoredRow {
-        rk: rk.copy(alloc)?,
-        props: stored.props.copy(alloc)?,
-        tag: stored.tag,
+        rk: row.rk.copy(alloc)?,
+        props: row.props.copy(alloc)?,
+        tag: row.tag,
     })
 }
 
@@ -26,13 +27,13 @@ fn named_rows(
     pk: &Text,
     names: &[Text],
 ) -> Result<Vec<StoredRow>, NoMemory>
-    requires { IsTrue (are_rising rows.now) }
-    ensures { IfOk result (λ v. v.items ≡ named_rows rows.now pk.now names.now) }
+    requires { IsTrue (are_rising (entries rows.now)) }
+    ensures { IfOk result (λ v. v.items ≡ named_rows (entries rows.now) pk.now names.now) }
 {
     let mut found = Vec::new(alloc);
     for rk in names {
         match row_at(rows, pk, rk) {
-            Some(stored) => found.push(shown(alloc, rk, stored)?)?,
+            Some(row) => found.push(copy_row(alloc, row)?)?,
             None => {}
         }
     }
@@ -41,11 +42,11 @@ fn named_rows(
 
 /// Copies of rows.
 fn copies(alloc: Global, rows: &[Row]) -> Result<Vec<StoredRow>, NoMemory>
-    ensures { IfOk result (λ v. v.items ≡ map (λ e. shown e.0.rk e.1) rows.now) }
+    ensures { IfOk result (λ v. v.items ≡ map (λ r. r.1) rows.now) }
 {
     let mut all = Vec::with_capacity(alloc, rows.len())?;
     for row in rows {
-        all.push(shown(alloc, &row.0.rk, &row.1)?)?;
+        all.push(copy_row(alloc, &row.1)?)?;
     }
     Ok(all)
 }
@@ -63,9 +64,9 @@ fn first_rows(rows: &[Row], limit: Option<u32>) -> (&[Row], bool)
 
 /// The rows of a range up to its limit, and whether the range has more.
 fn range_rows<'a>(rows: &'a [Row], pk: &Text, range: &Option<Range>) -> (&'a [Row], bool)
-    requires { IsTrue (are_rising rows.now) }
-    ensures first { map (λ e. shown e.0.rk e.1) result.0.now ≡ range_answer rows.now pk.now range.now }
-    ensures more { result.1 ≡ range_has_more rows.now pk.now range.now }
+    requires { IsTrue (are_rising (entries rows.now)) }
+    ensures first { map (λ r. r.1) result.0.now ≡ range_answer (entries rows.now) pk.now range.now }
+    ensures more { result.1 ≡ range_has_more (entries rows.now) pk.now range.now }
 {
     match range {
         None => (&rows[..0], false),
@@ -80,9 +81,9 @@ pub fn find(
     sealed: bool,
     query: &RangeQuery,
 ) -> Result<Found, NoMemory>
-    requires rising { IsTrue (are_rising rows.now) }
+    requires rising { IsTrue (are_rising (entries rows.now)) }
     requires can { CanQuery query.now }
-    ensures { IfOk result (λ found. (counter : ℕ) → IsFound query.now found (record { rows = rows.now; sealed = sealed; counter = counter })) }
+    ensures { IfOk result (λ found. (counter : ℕ) → IsFound query.now found (record { rows = entries rows.now; sealed = sealed; counter = counter })) }
 {
     let named = named_rows(alloc, rows, &query.pk, query.named.as_slice())?;
     let (range, more) = range_rows(rows, &query.pk, &query.range);
@@ -97,12 +98,12 @@ pub fn find(
 
 /// A copy of the least partition key with a row at or after a place.
 pub fn next_key(alloc: Global, rows: &[Row], at: &PkFrom) -> Result<Option<Text>, NoMemory>
-    requires { IsTrue (are_rising rows.now) }
-    ensures next { IfOk result (λ pk. IsNext at.now pk rows.now) }
+    requires { IsTrue (are_rising (entries rows.now)) }
+    ensures next { IfOk result (λ pk. IsNext at.now pk (entries rows.now)) }
     ensures past { IfOk result (λ pk. IfSome pk (λ pk. IsTrue (is_past at.now pk))) }
 {
     match rows.get(place_past(rows, at)) {
         None => Ok(None),
-        Some(row) => Ok(Some(row.0.pk.copy(alloc)?)),
+        Some(row) => Ok(Some(row.0.copy(alloc)?)),
     }
 }

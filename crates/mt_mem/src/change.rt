@@ -1,14 +1,15 @@
 //! Changes of rows: prepared while memory can still be wanting, and then made without any.
-ghost use Rattle.std.specs.Prelude.{◌≡◌, ◌+◌, ◌<◌, ◌≤◌, ◌^◌, IsTrue, IfOk, IfSome, IfNone, OnOk, MatchOption, length, List, vec_len, vec_capacity};
-ghost use Rattle.std.specs.FinMap.Entries.{put};
-ghost use Rattle.mt_model.specs.Key.{key_cmp};
-ghost use Rattle.mt_chain.specs.Rows.{Rows, are_rising, without_row};
-ghost use Rattle.mt_chain.specs.Puts.{counter_after, tag_of};
-ghost use Rattle.mt_mem.specs.Changes.{changed, all_changed, IsChange, IsPlan};
+ghost use Rattle.std.specs.Prelude.{◌≡◌, ◌+◌, ◌<◌, ◌≤◌, ◌^◌, IsTrue, IfOk, IsPermutation, length, [], ◌∷◌};
+ghost use Rattle.std.specs.List.Sorted.{IsSortedBy};
+ghost use Rattle.mt_chain.specs.Rows.{are_rising, key_at};
+ghost use Rattle.mt_chain.specs.Puts.{CanApply, counter_after, tag_of};
+ghost use Rattle.mt_mem.specs.Entries.{entries};
+ghost use Rattle.mt_mem.specs.Changes.{changed_key, is_before, edit_of, edits_of, edited, AreEdits, IsChange, IsPlan, ReadsTo, Makes};
 
 use crate::lookup::{Row, place_of};
-use mt_chain::{Put, Stored};
-use mt_model::{Key, NoMemory, Props, Tag, Text};
+use crate::rewrite::Rewrite;
+use mt_chain::{Put, StoredRow};
+use mt_model::{NoMemory, Props, Tag, Text};
 use std::alloc::Global;
 
 /// A change of the rows of one partition.
@@ -18,6 +19,16 @@ pub enum Change<'a> {
     Write(Row),
     /// No row stands at this row key.
     Remove(&'a Text),
+}
+
+/// The row key of a change.
+fn row_key<'a>(change: &'a Change<'_>) -> &'a Text
+    ensures { result.now ≡ changed_key change.now }
+{
+    match change {
+        Change::Write(row) => &row.1.rk,
+        Change::Remove(rk) => rk,
+    }
 }
 
 /// What puts do once they all hold.
@@ -61,7 +72,7 @@ fn tag_of(store: u32, counter: u64, put: &Put) -> Tag
     }
 }
 
-/// The row of these texts, properties and tag.
+/// The change that writes the row of these texts, properties and tag.
 fn written<'a>(
     alloc: Global,
     pk: &Text,
@@ -69,17 +80,14 @@ fn written<'a>(
     props: &Props,
     tag: Tag,
 ) -> Result<Change<'a>, NoMemory>
-    ensures { IfOk result (λ c. c ≡ Change.Write (record { pk = pk.now; rk = rk.now }, record { props = props.now; tag = tag })) }
+    ensures { IfOk result (λ c. c ≡ Change.Write (pk.now, record { rk = rk.now; props = props.now; tag = tag })) }
 {
-    let key = Key {
-        pk: pk.copy(alloc)?,
+    let row = StoredRow {
         rk: rk.copy(alloc)?,
-    };
-    let stored = Stored {
         props: props.copy(alloc)?,
         tag,
     };
-    Ok(Change::Write((key, stored)))
+    Ok(Change::Write((pk.copy(alloc)?, row)))
 }
 
 /// The change that a put makes.
@@ -111,7 +119,8 @@ pub fn prepare<'a>(
     pk: &Text,
     puts: &'a [Put],
 ) -> Result<Plan<'a>, NoMemory>
-    requires { counter + length puts.now ≤ 2 ^ 62 }
+    requires can { CanApply puts.now }
+    requires room { counter + length puts.now ≤ 2 ^ 62 }
     ensures { IfOk result (λ p. IsPlan store counter pk.now puts.now p) }
 {
     let mut changes = Vec::with_capacity(alloc, puts.len())?;
@@ -132,55 +141,53 @@ pub fn prepare<'a>(
     })
 }
 
-/// Puts a row at its key, in the place of any other.
-fn write_row(rows: &mut Vec<Row>, row: Row)
-    requires rising { IsTrue (are_rising rows.old.items) }
-    requires room { vec_len rows.old < vec_capacity rows.old }
-    ensures rows { rows.new.items ≡ put key_cmp row.0 row.1 rows.old.items }
-    ensures room { vec_capacity rows.old ≤ vec_capacity rows.new }
-    ensures len { vec_len rows.new ≤ vec_len rows.old + 1 }
+/// Changes in the order of their row keys.
+fn sorted<'a>(mut changes: Vec<Change<'a>>) -> Vec<Change<'a>>
+    ensures permutation { IsPermutation changes.entry.items result.items }
+    ensures sorted { IsSortedBy is_before result.items }
 {
-    match place_of(rows, &row.0.pk, &row.0.rk) {
-        Ok(at) => rows[at] = row,
-        Err(at) => if rows.insert(at, row).is_err() {
-            unreachable!();
-        },
+    changes.sort_unstable_by(|a, b| row_key(a).cmp(row_key(b)));
+    changes
+}
+
+/// Reads the rows below a key and writes them, and reads the row at the key, if there is one.
+fn read_to(pass: &mut Rewrite, pk: &Text, rk: &Text)
+    requires { IsTrue (are_rising (entries pass.old.left)) }
+    ensures { ReadsTo (key_at pk.now rk.now) pass.old pass.new }
+{
+    match place_of(pass.left(), pk, rk) {
+        Ok(at) => {
+            pass.keep(at);
+            pass.skip();
+        }
+        Err(at) => pass.keep(at),
     }
 }
 
-/// Takes out the row at a key, if there is one.
-fn remove_row(rows: &mut Vec<Row>, pk: &Text, rk: &Text)
-    requires rising { IsTrue (are_rising rows.old.items) }
-    ensures rows { rows.new.items ≡ without_row rows.old.items pk.now rk.now }
-    ensures room { vec_capacity rows.old ≤ vec_capacity rows.new }
-    ensures len { vec_len rows.new ≤ vec_len rows.old }
+/// Makes a change of a partition in the rows left to read, and writes them up to its key.
+fn make(pass: &mut Rewrite, pk: &Text, change: Change<'_>)
+    requires rising { IsTrue (are_rising (entries pass.old.left)) }
+    requires spare { 0 < pass.old.spare }
+    requires own { (edit_of pk.now change).0.pk ≡ pk.now }
+    ensures { Makes (edit_of pk.now change.entry) pass.old pass.new }
 {
-    if let Ok(at) = place_of(rows, pk, rk) {
-        let _ = rows.remove(at);
-    }
-}
-
-/// Makes a change, for which there is room.
-fn make(rows: &mut Vec<Row>, pk: &Text, change: Change<'_>)
-    requires rising { IsTrue (are_rising rows.old.items) }
-    requires room { vec_len rows.old < vec_capacity rows.old }
-    ensures rows { rows.new.items ≡ changed pk.now change.entry rows.old.items }
-    ensures room { vec_capacity rows.old ≤ vec_capacity rows.new }
-    ensures len { vec_len rows.new ≤ vec_len rows.old + 1 }
-{
+    read_to(pass, pk, row_key(&change));
     match change {
-        Change::Write(row) => write_row(rows, row),
-        Change::Remove(rk) => remove_row(rows, pk, rk),
+        Change::Write(row) => pass.put(row),
+        Change::Remove(_) => {}
     }
 }
 
-/// Makes changes in order, for which there is room.
-pub fn make_all(rows: &mut Vec<Row>, pk: &Text, changes: Vec<Change<'_>>)
-    requires rising { IsTrue (are_rising rows.old.items) }
-    requires room { vec_len rows.old + length changes.items ≤ vec_capacity rows.old }
-    ensures { rows.new.items ≡ all_changed pk.now changes.entry.items rows.old.items }
+/// The rows after changes of a partition, which are made in one pass over them.
+pub fn make_all(mut pass: Rewrite, pk: &Text, changes: Vec<Change<'_>>) -> Vec<Row>
+    requires begin { pass.written ≡ [] }
+    requires rising { IsTrue (are_rising (entries pass.left)) }
+    requires edits { AreEdits pk.now (edits_of pk.now changes.items) }
+    requires room { length changes.items ≤ pass.spare }
+    ensures { entries result.items ≡ edited (edits_of pk.now changes.entry.items) (entries pass.left) }
 {
-    for change in changes {
-        make(rows, pk, change);
+    for change in sorted(changes) {
+        make(&mut pass, pk, change);
     }
+    pass.finish()
 }

@@ -1,18 +1,22 @@
 //! A store in memory.
-ghost use Rattle.std.specs.Prelude.{◌≡◌, ◌≢◌, ◌≤◌, [], false, Err, length, if◌then◌else◌};
+ghost use Rattle.std.specs.Prelude.{◌≡◌, ◌≢◌, ◌≤◌, ◌^◌, [], false, Err, length, if◌then◌else◌};
 ghost use Rattle.mt_chain.specs.Puts.{CanApply};
 ghost use Rattle.mt_chain.specs.StoreCall.{CanQuery};
 ghost use Rattle.mt_chain.specs.Store.{Applies, Queries, Nexts, Seals};
-ghost use Rattle.mt_mem.specs.Memory.{Memory, IsMemory, store_of, risen, is_failing, is_at_end, is_apply_failing, counted, failed, Leaves, Judges, done_in, sealed_in, without_faults};
+ghost use Rattle.mt_mem.specs.Entries.{entries};
+ghost use Rattle.mt_mem.specs.Memory.{Memory, IsMemory, AreRows, store_of, risen, is_failing, is_at_end, is_apply_failing, counted, failed, Leaves, Judges, done_in, sealed_in, without_faults};
 
 use crate::answer::{find, next_key};
 use crate::change::{make_all, prepare};
 use crate::judge::unmet;
 use crate::lookup::{Row, has_partition};
-use mt_chain::{Found, KeepFault, Keeper, Next, PkFrom, Puts, RangeQuery, Tags};
+use crate::rewrite::Rewrite;
+use mt_chain::{Found, KeepFault, Keeper, Next, PkFrom, Puts, RangeQuery, StoredRow, Tags};
 use mt_model::Text;
 use std::alloc::Global;
+use std::collections::VecDeque;
 use std::marker::Model;
+use std::mem;
 
 /// A store in memory, which fails at the listed calls.
 ///
@@ -30,13 +34,14 @@ pub struct MemKeeper {
 }
 
 impl Model for MemKeeper {
+    ghost use Rattle.mt_mem.specs.Entries.{entries};
     ghost use Rattle.mt_mem.specs.Memory.{Memory, IsMemory};
 
     ghost Value = { Memory };
 
-    ghost view = { λ m. record { store = m.store; rows = m.rows.items; sealed = m.sealed; counter = m.counter; calls = m.calls; faults = m.faults; failing = m.failing.items } };
+    ghost view = { λ m. record { store = m.store; rows = entries m.rows.items; sealed = m.sealed; counter = m.counter; calls = m.calls; faults = m.faults; failing = m.failing.items } };
 
-    ghost invariant = { λ m. IsMemory (record { store = m.store; rows = m.rows.items; sealed = m.sealed; counter = m.counter; calls = m.calls; faults = m.faults; failing = m.failing.items }) };
+    ghost invariant = { λ m. IsMemory (record { store = m.store; rows = entries m.rows.items; sealed = m.sealed; counter = m.counter; calls = m.calls; faults = m.faults; failing = m.failing.items }) };
 }
 
 /// The greatest number of a tag, and the number of the call from which all fail.
@@ -52,6 +57,33 @@ impl MemKeeper {
             rows: Vec::new(alloc),
             sealed: false,
             counter: 0,
+            calls: 0,
+            faults: 0,
+            failing,
+        }
+    }
+
+    /// A store of this number that has these rows, with their partition keys, and gave so many tags; it
+    /// fails at the listed calls. Takes no memory.
+    ///
+    /// The keys of the rows rise, by partition key and then by row key. Their tags are of this store, of
+    /// the numbers from 1 to the counter, and no two are the same. The counter is at most 2^62.
+    pub fn with_rows(
+        store: u32,
+        rows: Vec<(Text, StoredRow)>,
+        counter: u64,
+        sealed: bool,
+        failing: Vec<u64>,
+    ) -> MemKeeper
+        requires rows { AreRows store counter (entries rows.items) }
+        requires bounded { counter ≤ 2 ^ 62 }
+        ensures { result ≡ record { store = store; rows = entries rows.items; sealed = sealed; counter = counter; calls = 0; faults = 0; failing = failing.items } }
+    {
+        MemKeeper {
+            store,
+            rows,
+            sealed,
+            counter,
             calls: 0,
             faults: 0,
             failing,
@@ -96,6 +128,9 @@ impl MemKeeper {
         let Ok(plan) = prepare(alloc, self.store, self.counter, pk, puts) else {
             return Err(KeepFault::NoMemory);
         };
+        let Ok(waiting) = VecDeque::with_capacity(alloc, plan.changes.len()) else {
+            return Err(KeepFault::NoMemory);
+        };
         if self.rows.try_reserve(plan.changes.len()).is_err() {
             return Err(KeepFault::NoMemory);
         }
@@ -105,7 +140,8 @@ impl MemKeeper {
         if let Some(index) = unmet(&self.rows, pk, puts) {
             return Err(KeepFault::Unmet { index });
         }
-        make_all(&mut self.rows, pk, plan.changes);
+        let rows = mem::replace(&mut self.rows, Vec::new(alloc));
+        self.rows = make_all(Rewrite::new(rows, waiting), pk, plan.changes);
         self.counter = plan.counter;
         Ok(Tags::of(plan.tags))
     }

@@ -7,6 +7,7 @@ mod depot;
 mod judge;
 mod keeper;
 mod lookup;
+mod rewrite;
 
 pub use depot::MemDepot;
 pub use keeper::MemKeeper;
