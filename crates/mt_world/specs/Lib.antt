@@ -1,3 +1,4 @@
 pub mod Worlds
+pub mod Logs
 pub mod Turns
 pub mod Opening

@@ -2,7 +2,9 @@
 #![tactic(auto)]
 
 mod actor;
+mod log;
 mod opening;
+mod stage;
 mod world;
 
 pub use actor::{Actor, Answer, ClientCall, Progress, Request, TurnFault};
