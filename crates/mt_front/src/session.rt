@@ -1,5 +1,8 @@
 //! One connection.
 
+use mt_chain::Cause;
+use mt_model::Tag;
+
 /// How a connection ended.
 #[derive(Clone, Copy, Debug, PartialEq, Eq)]
 pub enum End {
@@ -29,4 +32,30 @@ pub enum ConnFault {
 
     /// The allocator had no memory.
     NoMemory,
+}
+
+/// How an operation came out.
+#[derive(Clone, Copy, Debug, PartialEq, Eq)]
+enum Outcome {
+    /// It was done, and this is the tag of its row.
+    Done(Tag),
+
+    /// The table refused it.
+    Refused(Cause),
+
+    /// A store failed.
+    Fault,
+
+    /// The history is full.
+    Full,
+}
+
+/// What one turn of a session came to.
+#[derive(Clone, Copy, Debug, PartialEq, Eq)]
+enum Turn {
+    /// A request was answered.
+    Answered,
+
+    /// The session ended.
+    Ended(End),
 }

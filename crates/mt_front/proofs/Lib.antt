@@ -1,0 +1,3 @@
+mod CameLaws
+mod FitLaws
+mod TalkLaws
