@@ -1,0 +1,10 @@
+mod EndLaws
+mod FieldLaws
+mod FillLaws
+mod FrontLaws
+mod HeadLaws
+mod LineLaws
+mod RunLaws
+mod SectionLaws
+mod TargetLaws
+mod WordLaws
