@@ -9,7 +9,7 @@ use Rattle.mt_plain.specs.declared.reader.ReadFault.{ReadFault}
 use Rattle.mt_plain.specs.declared.reader.ReadFault.TheVariants.{Failed, NoMemory}
 use Rattle.mt_plain.specs.declared.request.PlainRequest.{PlainRequest}
 use Rattle.mt_plain.specs.declared.head.Opening.{Opening}
-use Rattle.mt_plain.specs.Requests.{HasNoRequest, print_request}
+use Rattle.mt_plain.specs.Requests.{IsPlain, HasNoRequest, print_request}
 use Rattle.mt_plain.specs.HeadEnds.{head_end, beyond, IsScanned}
 use Rattle.mt_plain.specs.Openings.{HasHead, HasNoHead}
 use Rattle.mt_plain.specs.Left.{ahead, Later, Took, Broke, IsUnsupported}
@@ -195,7 +195,7 @@ taken table kept s kept' t head o body kept'' r opened there takes =
     let made = request_made table kept' head o (opened_there table kept s kept' t head o r opened) there in
     record {
       request = made.request;
-      is_plain = subst (λ (v : List ℕ). Rattle.mt_plain.specs.Requests.IsPlain table made.request (with_body o v)) (sym takes.0) made.is_plain;
+      is_plain = subst (λ (v : List ℕ). IsPlain table made.request (with_body o v)) (sym takes.0) made.is_plain;
       read = r.same ∙ ap (λ (v : List ℕ). before_known v t.left) (made.whole ∙ ap (λ (v : List ℕ). print_request made.request ++ v) (sym takes.1))
           ∙ sym (before_before (print_request made.request) kept'' t.left);
     }

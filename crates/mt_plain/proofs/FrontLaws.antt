@@ -1,6 +1,7 @@
 -- When a plain request stands at the front, by the place where the head ends and by what follows it.
 use Rattle.std.proofs.Common.{◌≡◌, ℕ, ◌+◌, ◌-◌, ◌<◌, ◌≤◌, ◌^◌, Bool, true, false, cond, List, [], ◌∷◌, ◌++◌, length, take, drop, Option, Some, None, refl, sym, ap, ◌∙◌, arith, append_assoc, append-nil, length-append, length-take, length-drop, subst, codes, nat_eq, inl, inr}
 use Rattle.std.specs.Prelude.{◌⊎◌}
+use Rattle.std.specs.Cmp.Lexicographic.{pointwise}
 use Rattle.std.proofs.lemmas.List.{take-append-le, take-append-drop, drop-drop}
 use Rattle.std.proofs.lemmas.Bool.Decides.{Decides-eqb}
 use Rattle.std.proofs.lemmas.Slice.Eq.{starts_is}
@@ -45,7 +46,7 @@ end_here_grows bytes more n here four =
 not_here_grows : (c : ℕ) (cs more : List ℕ) → 4 ≤ length (c ∷ cs) → ends_here (c ∷ cs) ≡ false → ends_here (c ∷ (cs ++ more)) ≡ false
 not_here_grows c cs more long e =
     let same : take 4 (c ∷ (cs ++ more)) ≡ take 4 (c ∷ cs) = take-append-le 4 (c ∷ cs) more long in
-    ap (λ (x : List ℕ). Rattle.std.specs.Cmp.Lexicographic.pointwise nat_eq (codes "\r\n\r\n") x) same ∙ e
+    ap (λ (x : List ℕ). pointwise nat_eq (codes "\r\n\r\n") x) same ∙ e
 
 pub end_grows : (bytes more : List ℕ) (n : ℕ) → head_end bytes ≡ Some n → head_end (bytes ++ more) ≡ Some n
 end_grows [] more n e = absurd (cc)
@@ -214,9 +215,3 @@ request_made table kept head o opened le =
       };
       whole = parts ∙ sym (append_assoc (take head kept) body (drop n (drop head kept))) ∙ ap (λ (x : List ℕ). x ++ drop n (drop head kept)) front_is ∙ ap (λ (x : List ℕ). print_request r ++ x) rest;
     }
-
--- the body as a slice of the code
-pub slice_is : (kept slice : List ℕ) (head n end : ℕ) → slice ≡ kept → end ≡ head + n → take (end - head) (drop head slice) ≡ take n (drop head kept)
-slice_is kept slice head n end same e =
-    let size : end - head ≡ n = omega (arith, e) in
-    ap (λ (k : ℕ). take k (drop head slice)) size ∙ ap (λ (x : List ℕ). take n (drop head x)) same

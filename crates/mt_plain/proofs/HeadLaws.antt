@@ -5,8 +5,8 @@ use Rattle.mt_plain.specs.declared.request.Route.{Route}
 use Rattle.mt_plain.specs.declared.request.IfMatch.{IfMatch}
 use Rattle.mt_plain.specs.declared.fields.Said.{Said}
 use Rattle.mt_plain.specs.declared.head.RequestLine.{RequestLine}
-use Rattle.mt_plain.specs.Heads.{Field, Head, IsHead, IsFramed, IsLength, field_lines, line_end, fields_named, print_head}
-use Rattle.mt_plain.specs.Requests.{IsRoute, IsMatch, prefers_no_content}
+use Rattle.mt_plain.specs.Heads.{Field, Head, IsHead, IsFramed, IsLength, is_same, field_lines, line_end, fields_named, print_head}
+use Rattle.mt_plain.specs.Requests.{IsRoute, SaysMatch, IsMatch, prefers_no_content}
 use Rattle.mt_plain.specs.Fields.{Noted, SizedAs, FirstIs, FirstSays, first_prefers, HasSection, HasNoSection, print_section}
 use Rattle.mt_plain.specs.Openings.{print_line, StandsLine, HasLine, HasNoLine, HasHead, HasNoHead}
 use Rattle.mt_plain.proofs.LineLaws.{line_unique}
@@ -48,12 +48,12 @@ sized_end fs (Some n) s = subst (λ (xs : List Field). IsLength xs n) (sym s.1) 
 match_end : (fs : List Field) (first : Option (Bor (List ℕ))) (m : IfMatch) → FirstIs fs first → FirstSays first m → IsMatch fs m
 match_end fs None m f says = subst (λ (xs : List Field). IsMatch xs m) (sym f) says
 match_end fs (Some value) m f says =
-    subst (λ (xs : List Field). IsMatch xs m) (sym f.2) (subst (λ (v : List ℕ). Rattle.mt_plain.specs.Requests.SaysMatch v m) f.3 says)
+    subst (λ (xs : List Field). IsMatch xs m) (sym f.2) (subst (λ (v : List ℕ). SaysMatch v m) f.3 says)
 
 prefer_end : (fs : List Field) (first : Option (Bor (List ℕ))) → FirstIs fs first → first_prefers first ≡ prefers_no_content fs
 prefer_end fs None f = sym (ap prefers_no_content f)
 prefer_end fs (Some value) f =
-    ap (λ (v : List ℕ). Rattle.mt_plain.specs.Heads.is_same v (codes "return-no-content")) f.3 ∙ sym (ap prefers_no_content f.2)
+    ap (λ (v : List ℕ). is_same v (codes "return-no-content")) f.3 ∙ sym (ap prefers_no_content f.2)
 
 pub framed_end : (fs : List Field) (said : Said) → Noted fs said → IsFramed fs (unwrap_or said.length 0)
 framed_end fs said n = record {

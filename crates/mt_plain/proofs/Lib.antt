@@ -4,6 +4,7 @@ mod FillLaws
 mod FrontLaws
 mod HeadLaws
 mod LineLaws
+pub mod OneLaws
 mod RunLaws
 mod SectionLaws
 mod TargetLaws

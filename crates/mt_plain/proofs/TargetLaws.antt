@@ -96,7 +96,7 @@ entity_split name pk rk = simp append_assoc
 table_of : (table target : List ℕ) → IsTableTarget table target → HasTable table target []
 table_of table target t = record { name = t.name; same = t.same; whole = t.spelled ∙ sym (append-nil (codes "/" ++ t.name)) }
 
-keys_of : (table target pk rk : List ℕ) → IsEntityTarget table target pk rk → HasTable table target (print_keys pk rk)
+pub keys_of : (table target pk rk : List ℕ) → IsEntityTarget table target pk rk → HasTable table target (print_keys pk rk)
 keys_of table target pk rk t = record { name = t.name; same = t.same; whole = t.spelled ∙ sym (entity_split t.name pk rk) }
 
 pub no_route : (table method target : List ℕ) → HasNoTable table target → (r : Route) → IsRoute table method target r → ⊥

@@ -4,6 +4,7 @@
 mod ends;
 mod fields;
 mod head;
+pub mod laws;
 mod reader;
 mod request;
 mod runs;
