@@ -1,2 +1,5 @@
 pub mod LogLaws
 pub mod StageLaws
+pub mod PairLaws
+pub mod EntryLaws
+pub mod TurnLaws

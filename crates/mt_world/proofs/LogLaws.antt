@@ -44,9 +44,9 @@ pub numbers_raised : (l : Log) (entries : List Entry) (numbers : List (ℕ × �
 numbers_raised l entries numbers e log number raised q =
     ap (λ o. count_at (λ _. o) q) (raised q) ∙ ap (λ b. count_at (λ _. cond b (Some (e.number + 1)) (number_in l.numbers q)) q) (same_test e.caller q)
     ∙ by (nat_eq q e.caller) ∙ sym (next_more l.history.entries e q) where
-  by : (b : Bool) → count_at (λ _. cond b (Some (e.number + 1)) (number_in l.numbers q)) q ≡ cond b (e.number + 1) (next_number l.history.entries q)
-  by true = refl
-  by false = log.numbers q
+      by : (b : Bool) → count_at (λ _. cond b (Some (e.number + 1)) (number_in l.numbers q)) q ≡ cond b (e.number + 1) (next_number l.history.entries q)
+      by true = refl
+      by false = log.numbers q
 
 -- no number passes the count of entries
 pub few_more : (l : Log) (e : Entry) → IsLog l → e.number ≡ next_number l.history.entries e.caller → (q : ℕ) → next_number (l.history.entries ++ e ∷ []) q ≤ length (l.history.entries ++ e ∷ [])

@@ -25,9 +25,12 @@ use Rattle.mt_history.specs.Replies.{Replies}
 use Rattle.mt_meta.specs.Facts.{Fact, Holds, ApartFrom}
 use Rattle.mt_meta.specs.Steps.{AllHold}
 use Rattle.mt_batch_plan.specs.declared.place.Place.{Place}
+use Rattle.mt_batch_plan.specs.declared.place.Place.TheVariants.{ReadOld}
 use Rattle.mt_batch_plan.specs.declared.call.BatchProgress.{BatchProgress}
 use Rattle.mt_batch_plan.specs.declared.call.BatchProgress.TheVariants as batch
-use Rattle.mt_batch_plan.specs.Calls.{Call, Asks, Absorbs, call_facts}
+use Rattle.mt_batch_plan.specs.Calls.{Call, CallFits, Asks, Absorbs, call_facts}
+use Rattle.mt_world.specs.declared.actor.Request.{Request}
+use Rattle.mt_world.specs.declared.actor.Request.TheVariants as request
 use Rattle.mt_world.specs.declared.actor.ClientCall.{ClientCall}
 use Rattle.mt_world.specs.declared.actor.ClientCall.TheVariants as client
 use Rattle.mt_world.specs.declared.actor.Actor.{Actor}
@@ -47,6 +50,10 @@ abbrev pub CanStep : Actor → Type 0
 CanStep (Client (client.Batch call)) = Unit {0}
 CanStep (Client client.Ended) = ⊥
 
+-- the call of a request, at its beginning
+abbrev pub IsCallOf : Request → ClientCall → Type 0
+IsCallOf (request.Batch batch) call = call ≡ client.Batch (record { batch = batch; place = ReadOld })
+
 -- what an actor knows between its turns
 abbrev pub actor_facts : Actor → List Fact
 actor_facts (Client (client.Batch call)) = call_facts call
@@ -55,6 +62,11 @@ actor_facts (Client client.Ended) = []
 -- it is so in this world
 abbrev pub Knows : WorldState → Actor → Type 0
 Knows w a = ForPair w (λ p. AllHold p w.retired (actor_facts a))
+
+-- what each actor keeps of itself
+abbrev pub ActorFits : Actor → Type 0
+ActorFits (Client (client.Batch call)) = CallFits call
+ActorFits (Client client.Ended) = Unit {0}
 
 -- the room in the history that a turn needs
 abbrev pub need_of : Actor → ℕ
@@ -176,6 +188,7 @@ is_full (Err NoMemory) = false
 
 -- the part of a turn that does not depend on what the stores tell
 pub record TakesTurn (c : Stage) (caller : ℕ) (a : Actor) (r : Result Progress TurnFault) (c' : Stage) (a' : Actor) : Type 0 where
+  pub fits : ActorFits a
   pub full : is_full r ≡ not (has_room c.history (need_of a))
   pub moves : Moves c a r c' a'
   pub entries : c'.history.entries ≡ entries_with c.history.entries caller (what_of (asked_by a) r)

@@ -150,12 +150,7 @@ fn call_store<K: Keeper>(
 
 impl<K: Keeper> Stage<K> {
     /// One turn of a batch call: at most one store call, and then at most one entry.
-    fn batch_turn(
-        &mut self,
-        alloc: Global,
-        caller: u32,
-        call: BatchCall,
-    ) -> Result<Step, TurnFault>
+    fn batch_turn(&mut self, alloc: Global, caller: u32, call: BatchCall) -> Result<Step, TurnFault>
         ensures { TakesTurn self.old caller (Actor.Client (ClientCall.Batch call)) (said_by result) self.new (left_by result) }
     {
         if !self.log.history().room_for(call.batch().weight()) {

@@ -7,7 +7,7 @@ pub push-requires-clause-tagged : goal.push-requires-clause-tagged
 push-requires-clause-tagged c =
     ap length c.copy_tags-copy.ensures
     ∙ (written_at_write c.args.call.batch c.args.call.place c.absorb.new.self.place c.args.reply c.in-Ok-Written.tags
-      (subst (λ s. Absorbs c.args.call.batch c.args.call.place c.args.reply (Ok s) c.absorb.new.self.place) c.in-Ok-Written.field-0-is c.in-Ok-Written.ensures.moves)).1
+    (subst (λ s. Absorbs c.args.call.batch c.args.call.place c.args.reply (Ok s) c.absorb.new.self.place) c.in-Ok-Written.field-0-is c.in-Ok-Written.ensures.moves)).1
     ∙ sym (ap length (c.into_batch.ensures ∙ c.absorb.ensures.batch))
 
 pub returns-in-Ok-Written : goal.returns-in-Ok-Written
