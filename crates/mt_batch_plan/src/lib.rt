@@ -2,6 +2,8 @@
 #![tactic(auto)]
 
 mod call;
+mod judge;
+mod names;
 mod place;
 
 pub use call::{BatchCall, BatchProgress};
