@@ -1,5 +1,5 @@
 -- The keys of a batch's rows and the marker's: they differ, so that sorted they rise.
-use Rattle.std.proofs.Common.{◌≡◌, ◌≢◌, ℕ, zero, suc, ◌+◌, ◌<◌, ◌≤◌, Bool, true, false, List, [], ◌∷◌, map, length, get_or, refl, sym, ap, subst, ◌∙◌, arith, Option, Some, None}
+use Rattle.std.proofs.Common.{◌≡◌, ◌≢◌, ℕ, suc, ◌+◌, ◌≤◌, Bool, true, false, List, [], ◌∷◌, map, length, get_or, refl, sym, ap, subst, ◌∙◌, arith, Option, Some, None}
 use Rattle.std.specs.Prelude.{bytes_eq, ◌&&◌}
 use Rattle.std.specs.Option.{option_or}
 use Rattle.std.specs.Str.{chars}
@@ -11,7 +11,7 @@ use Rattle.std.specs.List.Sorted.{IsStrictlySortedBy, IsSortedBy, IsPermutation}
 use Rattle.std.specs.Cmp.Lexicographic.{slice_cmp, nat_list_cmp_total, nat_list_eq_equiv, texts_ties}
 use Rattle.std.proofs.lemmas.Map.Keys.{IsDistinct-IsPermutation, IsDistinct-head, IsDistinct-tail, IsDistinct-cons, sorted_from_all_adjacent, apart_from_distinct}
 use Rattle.std.proofs.lemmas.List.{length-map}
-use Rattle.std.proofs.lemmas.List.Sorted.{IsPermutation-map, length_permutation}
+use Rattle.std.proofs.lemmas.List.Sorted.{length_permutation}
 use Rattle.std.proofs.lemmas.List.Elements.{recursion_from_All}
 use Rattle.mt_model.specs.Key.{key_fault, key_cmp, part_fault}
 use Rattle.mt_model.specs.declared.key.KeyPart.TheVariants.{Partition, Row}
@@ -20,7 +20,7 @@ use Rattle.mt_model.specs.declared.key.KeyFault.TheVariants.{KeyChar}
 use Rattle.mt_chain.specs.declared.op.Op.{Op}
 use Rattle.mt_chain.specs.Effect.{op_key}
 use Rattle.mt_chain.specs.Batch.{AreApart}
-use Rattle.mt_chain.proofs.KeyLaws.{is_tied, text_same, text_false, text_true}
+use Rattle.mt_chain.proofs.KeyLaws.{is_tied, text_same, text_false}
 use Rattle.mt_meta.specs.Markers.{marker_key}
 use Rattle.mt_rules.specs.Batches.{IsBatch, MayAsk, partition_of}
 use Rattle.mt_batch_plan.specs.Calls.{AreNames}
@@ -34,7 +34,7 @@ less_than Equal r l e q = cc
 less_than Greater r l e q = e
 
 -- of two texts that differ and of which the second is not below the first, the first is below
-below : (x y : List ℕ) → is_below y x ≡ false → bytes_eq x y ≡ false → slice_cmp nat_cmp x y ≡ Less
+pub below : (x y : List ℕ) → is_below y x ≡ false → bytes_eq x y ≡ false → slice_cmp nat_cmp x y ≡ Less
 below x y up apart = less_than (slice_cmp nat_cmp y x) (slice_cmp nat_cmp x y) up (nat_list_cmp_total.antisymm x y) (sym (texts_ties x y) ∙ apart)
 
 pub rising_texts : (xs : List (List ℕ)) → IsSortedBy is_below xs → IsDistinct bytes_eq xs → IsStrictlySortedBy (slice_cmp nat_cmp) xs

@@ -5,6 +5,9 @@ mod call;
 mod judge;
 mod names;
 mod place;
+mod plan;
+mod puts;
+mod saw;
 
 pub use call::{BatchCall, BatchProgress};
 pub use place::Place;
