@@ -8,6 +8,8 @@ mod place;
 mod plan;
 mod puts;
 mod saw;
+#[cfg(test)]
+mod tests;
 
 pub use call::{BatchCall, BatchProgress};
 pub use place::Place;
