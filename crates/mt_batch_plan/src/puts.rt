@@ -26,7 +26,8 @@ use std::alloc::Global;
 /// The tag of no row.
 pub(crate) const NO_TAG: Tag = Tag { store: 0, n: 0 };
 
-/// Properties over the visible ones of a row, which keep the limits together.
+/// Properties over the visible ones of a row. Together they keep the limits, since the operation was
+/// judged, so the one error is want of memory.
 fn merge(alloc: Global, own: &Props, over: &Props) -> Result<Props, NoMemory>
     ensures { IfOk result (λ p. p ≡ merged (filter is_visible own.now) over.now) }
 {
@@ -36,7 +37,8 @@ fn merge(alloc: Global, own: &Props, over: &Props) -> Result<Props, NoMemory>
     }
 }
 
-/// Properties over those of a row as clients see it, which keep the limits together.
+/// Properties over those of a row as clients see it, which keep the limits together. The one error is
+/// want of memory.
 fn merge_on(alloc: Global, row: Option<&StoredRow>, over: &Props) -> Result<Props, NoMemory>
     ensures { IfOk result (λ p. p ≡ merged_on (as_seen (option_copied row.entry)) over.now) }
 {
@@ -53,14 +55,15 @@ fn props_left(alloc: Global, op: &Op, row: Option<&StoredRow>) -> Result<Option<
     match op {
         Op::Delete { .. } => Ok(None),
         Op::Insert { props, .. } | Op::Replace { props, .. } | Op::InsertOrReplace { props, .. } =>
-            { Ok(Some(props.copy(alloc)?)) }
+            Ok(Some(props.copy(alloc)?)),
         Op::Merge { props, .. } | Op::InsertOrMerge { props, .. } => {
             Ok(Some(merge_on(alloc, row, props)?))
         }
     }
 }
 
-/// The put that leaves these properties, or none, where a row of that tag was read, or none.
+/// The put that leaves these properties, or none, where that row was read, or none. An accepted
+/// operation leaves a row where none was read, so the last of the puts is never made.
 fn put_of(rk: Text, row: Option<&StoredRow>, left: Option<Props>) -> Put
     ensures { result ≡ put_of rk (option_map kept_row (option_copied row.entry)) (as_left left) }
 {

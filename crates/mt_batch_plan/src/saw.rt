@@ -13,7 +13,7 @@ use mt_model::NoMemory;
 use std::alloc::Global;
 
 /// What the marker that was read lets a batch do.
-#[derive(Clone, Copy, Debug, PartialEq, Eq)]
+#[derive(Clone, Copy)]
 pub(crate) enum Reading {
     /// Clients write the partition in old.
     Write,
