@@ -92,7 +92,7 @@ replay_grows w w' p q caller said same entries h g =
       retired = λ r. g.retired (sym same.retired ∙ r);
     }
 
-no_tags : (P : Tag → Type 0) → All P []
+pub no_tags : (P : Tag → Type 0) → All P []
 no_tags P k d l = absurd (omega arith)
 
 -- an entry that changes nothing, at the same pair

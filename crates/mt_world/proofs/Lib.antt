@@ -3,3 +3,5 @@ pub mod StageLaws
 pub mod PairLaws
 pub mod EntryLaws
 pub mod TurnLaws
+pub mod OpenLaws
+pub mod FinishLaws

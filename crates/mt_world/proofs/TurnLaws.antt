@@ -148,6 +148,7 @@ pub record KeptAndTurned (w : WorldState) (caller : ℕ) (a : Actor) (r : Result
 ended_turn : (w w' : WorldState) (caller : ℕ) (a a' : Actor) (fault : TurnFault) → IsSameWorld w w' → TakesTurn (stage_of w) caller a (Err fault) (stage_of w') a'
     → IsQuiet w w' → a' ≡ Client client.Ended → Turns w caller a (Err fault) w' a'
 ended_turn w w' caller a a' fault same takes quiet over = record {
+  fits = takes.fits;
   same = same;
   tells = quiet_tells w w' quiet;
   full = takes.full;
@@ -364,6 +365,7 @@ answered_turn w w' caller call to said ask answer world knows frame takes asks o
     record {
       world = step_world w w' caller call to said ask answer world knows fits same asks one batch absorbs takes.entries;
       turns = record {
+        fits = fits;
         same = same;
         tells = called_tells w w' ask.side ask.ask answer one.on;
         full = takes.full;

@@ -255,6 +255,7 @@ pub record IsSameWorld (w w' : WorldState) : Type 0 where
 
 -- what a turn of an actor does
 pub record Turns (w : WorldState) (caller : ℕ) (a : Actor) (r : Result Progress TurnFault) (w' : WorldState) (a' : Actor) : Type 0 where
+  pub fits : ActorFits a
   pub same : IsSameWorld w w'
   pub tells : Tells w' → Tells w
   -- full exactly where the history has no room for the need
@@ -294,3 +295,14 @@ pub record Answers (w : WorldState) (caller : ℕ) (ops : List Op) (r : Result A
   pub old_faults : w.old_store.faults ≤ w'.old_store.faults
   pub new_faults : w.new_store.faults ≤ w'.new_store.faults
   pub calls : w.calls ≤ w'.calls
+
+-- the call is at its beginning
+abbrev pub IsAtBegin : Actor → Type 0
+IsAtBegin (Client (client.Batch call)) = call.place ≡ ReadOld
+IsAtBegin (Client client.Ended) = ⊥
+
+-- turns that end a call; one that begins, while both stores tell, takes two at most: a read and a write
+pub record EndsCall (w : WorldState) (caller : ℕ) (a : Actor) (r : Result Answer TurnFault) (w' : WorldState) : Type 0 where
+  pub more : ℕ
+  pub turns : Finishes more w caller a r w'
+  pub few : IsAtBegin a → Tells w' → more ≤ 1

@@ -1,9 +1,12 @@
 //! The world: two stores, and the history of what happened to their table.
-ghost use Rattle.std.specs.Prelude.{◌≡◌, IfOk};
+ghost use Rattle.std.specs.Prelude.{◌≡◌, ◌≤◌, IfOk, IfErr};
 ghost use Rattle.mt_world.specs.Worlds.{IsWorld};
-ghost use Rattle.mt_world.specs.Turns.{CanStep, Knows, Turns, IsCallOf};
+ghost use Rattle.mt_world.specs.Opening.{Opened, ComesBack};
+ghost use Rattle.mt_world.specs.Turns.{CanStep, Knows, Turns, IsCallOf, EndsCall, Answers, asked_by};
 
-use crate::actor::{Actor, ClientCall, Progress, Request, TurnFault};
+use crate::actor::{Actor, Answer, ClientCall, Progress, Request, TurnFault};
+use crate::log::Log;
+use crate::opening::{NotOpened, check_stores};
 use crate::stage::Stage;
 use mt_batch_plan::BatchCall;
 use mt_chain::Keeper;
@@ -70,14 +73,56 @@ impl<K: Keeper> Model for World<K> {
 }
 
 impl<K: Keeper> World<K> {
+    /// Opens two stores, the one of number 0 as the old one and that of number 1 as the new one, with a
+    /// history that may have so many entries, 1 to 1,048,576.
+    ///
+    /// Each store is asked once for its first partition, store 0 first. A fault of either comes before
+    /// `NotEmpty`, which names the first store that has a row or is sealed. Stores that are not opened
+    /// come back as they are.
+    pub fn open_world(
+        alloc: Global,
+        mut old_store: K,
+        mut new_store: K,
+        entries: u64,
+    ) -> Result<World<K>, NotOpened<K>>
+        requires old { (K.state old_store).number ≡ 0 }
+        requires new { (K.state new_store).number ≡ 1 }
+        requires some { 1 ≤ entries }
+        requires bounded { entries ≤ 1048576 }
+        ensures opened { IfOk result (Opened (K.state old_store) (K.state new_store) entries) }
+        ensures refused { IfErr result (λ e. ComesBack (K.state old_store) (K.state new_store) e.fault (K.state e.old) (K.state e.new)) }
+    {
+        if let Err(fault) = check_stores(alloc, &mut old_store, &mut new_store) {
+            return Err(NotOpened {
+                fault,
+                old: old_store,
+                new: new_store,
+            });
+        }
+        let old_opened = Snapshot::of(&old_store);
+        let new_opened = Snapshot::of(&new_store);
+        Ok(World {
+            stage: Stage {
+                old_store,
+                new_store,
+                log: Log::new(alloc, entries),
+                calls: 0,
+            },
+            base: Entities::of(Vec::new(alloc)),
+            generation: 1,
+            retired: false,
+            old_opened,
+            new_opened,
+        })
+    }
+
     /// The call of a request, at its beginning. The world stays as it is.
     pub fn call_of(&mut self, alloc: Global, request: Request) -> Result<ClientCall, NoMemory>
         ensures same { self.new ≡ self.old }
         ensures call { IfOk result (IsCallOf request) }
     {
-        let _ = alloc;
         match request {
-            Request::Batch(batch) => Ok(ClientCall::Batch(BatchCall::new(batch))),
+            Request::Batch(batch) => Ok(ClientCall::Batch(BatchCall::new(alloc, batch))),
         }
     }
 
@@ -94,9 +139,32 @@ impl<K: Keeper> World<K> {
     ) -> Result<Progress, TurnFault>
         requires ready { CanStep actor.old }
         requires knows { Knows self.old actor.old }
-        ensures { Turns self.old caller actor.old result self.new actor.new }
+        ensures turns { Turns self.old caller actor.old result self.new actor.new }
+        ensures world { IsWorld self.old }
     {
         self.stage.turn(alloc, caller, actor)
+    }
+
+    /// Takes turns until the call ends, with no other caller between them. A call at its beginning
+    /// takes two at most while both stores tell what they hold: one that reads, and one that writes.
+    pub fn finish(
+        &mut self,
+        alloc: Global,
+        caller: u32,
+        call: ClientCall,
+    ) -> Result<Answer, TurnFault>
+        requires ready { CanStep (Actor.Client call) }
+        requires knows { Knows self.old (Actor.Client call) }
+        ensures ends { EndsCall self.old caller (Actor.Client call) result self.new }
+        ensures answers { Answers self.old caller (asked_by (Actor.Client call)) result self.new }
+    {
+        let mut actor = Actor::Client(call);
+        loop {
+            match self.turn(alloc, caller, &mut actor)? {
+                Progress::More => {}
+                Progress::Done(answer) => return Ok(answer),
+            }
+        }
     }
 
     /// What happened since the stores were opened, in order.
