@@ -9,6 +9,9 @@ ghost use Rattle.mt_plain.specs.declared.request.Route.TheVariants as route;
 ghost use Rattle.mt_front.specs.declared.asks.Asked.TheVariants as asked;
 ghost use Rattle.mt_front.specs.Asks.{HasKeys, IsRefused, KeyedBy, InsertBy, AsksInsert, AsksAction, AsksWith, AsksOn, Asks, CanTry, insert_echo, match_refusal, condition_of, put_op, merge_op};
 
+#[cfg(test)]
+mod tests;
+
 use crate::refusals::{BadRequest, body_refusal, key_refusal};
 use mt_chain::{Cond, Op};
 use mt_json::{Body, KeyUse, read_entity};

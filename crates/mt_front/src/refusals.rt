@@ -5,6 +5,9 @@ ghost use Rattle.mt_json.specs.declared.read.JsonFault.TheVariants as json;
 ghost use Rattle.mt_json.specs.Body.{is_repeat};
 ghost use Rattle.mt_front.specs.Refusals.{key_refusal, props_refusal, body_refusal, bad_reply, cause_reply, fault_reply, full_reply, unsupported_reply};
 
+#[cfg(test)]
+mod tests;
+
 use mt_chain::Cause;
 use mt_json::JsonFault;
 use mt_model::{KeyFault, PropsFault};

@@ -7,6 +7,9 @@ ghost use Rattle.mt_chain.specs.declared.op.Op.TheVariants as op;
 ghost use Rattle.mt_front.specs.declared.asks.Echo.TheVariants as echo;
 ghost use Rattle.mt_front.specs.Replies.{created_head, created_reply, tagged_reply, no_content_reply, HasEcho, bytes_of, bytes_by, HasOwnRoom, IsPrepared};
 
+#[cfg(test)]
+mod tests;
+
 use crate::asks::Echo;
 use itoa::Buffer;
 use mt_chain::Op;

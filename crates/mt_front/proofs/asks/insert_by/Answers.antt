@@ -1,4 +1,4 @@
-use Rattle.mt_front.proofs.AskLaws.{read_keys}
+use Rattle.mt_front.proofs.BodyKeyLaws.{read_keys}
 use Rattle.mt_front.proofs.asks.insert_by.Goals as goal
 
 pub insert_of-requires-clause-keys : goal.insert_of-requires-clause-keys
