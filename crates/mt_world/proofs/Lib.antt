@@ -5,3 +5,4 @@ pub mod EntryLaws
 pub mod TurnLaws
 pub mod OpenLaws
 pub mod FinishLaws
+pub mod ReplayLaws

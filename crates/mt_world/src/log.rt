@@ -1,5 +1,5 @@
 //! A history with the number of each caller's next entry.
-ghost use Rattle.std.specs.Prelude.{◌≡◌, ◌≤◌, ◌-◌, ◌++◌, ◌∷◌, [], ℕ, IsTrue, IsSome, OnOk};
+ghost use Rattle.std.specs.Prelude.{◌≡◌, ◌≤◌, ◌-◌, ◌++◌, ◌∷◌, [], ℕ, All, IsTrue, IsSome, OnOk};
 ghost use Rattle.std.specs.Map.{count_at};
 ghost use Rattle.mt_history.specs.Weight.{weight};
 ghost use Rattle.mt_history.specs.Kept.{has_room};
@@ -66,6 +66,14 @@ impl Log {
         ensures { result.now ≡ self.now.history }
     {
         &self.history
+    }
+
+    /// The entries in order. Each that tells of an applied batch has a tag for each operation.
+    pub fn entries(&self) -> &[Entry]
+        ensures value { result.now ≡ self.now.history.entries }
+        ensures tagged { All (λ e. IsTagged e.what) self.now.history.entries }
+    {
+        self.history.entries()
     }
 
     /// Takes the memory for one more entry of a caller. The one error is want of memory.

@@ -1,8 +1,8 @@
 //! Two stores and the log of what happened to them: what turns change.
-ghost use Rattle.std.specs.Prelude.{◌≡◌, ◌≤◌, [], true, false, IfOk, IfErr, OnOk, IsTrue, length, vec_capacity, Result, Ok, Err};
+ghost use Rattle.std.specs.Prelude.{◌≡◌, ◌≤◌, [], true, false, IfOk, IfErr, OnOk, All, IsTrue, length, vec_capacity, Result, Ok, Err};
 ghost use Rattle.mt_chain.specs.Asks.{CanAsk, FitsAsk};
 ghost use Rattle.mt_batch_plan.specs.Calls.{Asks, is_write};
-ghost use Rattle.mt_world.specs.Logs.{IsReady};
+ghost use Rattle.mt_world.specs.Logs.{IsTagged, IsReady};
 ghost use Rattle.mt_world.specs.Turns.{CallsOn, CanStep, TakesTurn, Answered, said_by, left_by};
 ghost use Rattle.mt_chain.specs.Batch.{batch_weight};
 ghost use Rattle.mt_history.specs.Kept.{has_room};
@@ -12,7 +12,7 @@ use crate::actor::{Actor, Answer, ClientCall, Progress, TurnFault};
 use crate::log::Log;
 use mt_batch_plan::{BatchCall, BatchProgress};
 use mt_chain::{CallFault, Keeper, Side, StoreAsk, StoreReply, Tags};
-use mt_history::What;
+use mt_history::{Entry, What};
 use mt_model::{NoMemory, Tag};
 use std::alloc::Global;
 use std::marker::Model;
@@ -149,6 +149,15 @@ fn call_store<K: Keeper>(
 }
 
 impl<K: Keeper> Stage<K> {
+    /// The entries of the log, in order. Each that tells of an applied batch has a tag for each
+    /// operation.
+    pub fn entries(&self) -> &[Entry]
+        ensures value { result.now ≡ self.now.history.entries }
+        ensures tagged { All (λ e. IsTagged e.what) self.now.history.entries }
+    {
+        self.log.entries()
+    }
+
     /// One turn of a batch call: at most one store call, and then at most one entry.
     fn batch_turn(&mut self, alloc: Global, caller: u32, call: BatchCall) -> Result<Step, TurnFault>
         ensures { TakesTurn self.old caller (Actor.Client (ClientCall.Batch call)) (said_by result) self.new (left_by result) }

@@ -1,12 +1,14 @@
 //! The world: two stores, and the history of what happened to their table.
 ghost use Rattle.std.specs.Prelude.{◌≡◌, ◌≤◌, IfOk, IfErr};
 ghost use Rattle.mt_world.specs.Worlds.{IsWorld};
+ghost use Rattle.mt_world.specs.Replays.{CountsRows};
 ghost use Rattle.mt_world.specs.Opening.{Opened, ComesBack};
 ghost use Rattle.mt_world.specs.Turns.{CanStep, Knows, Turns, IsCallOf, EndsCall, Answers, asked_by};
 
 use crate::actor::{Actor, Answer, ClientCall, Progress, Request, TurnFault};
 use crate::log::Log;
 use crate::opening::{NotOpened, check_stores};
+use crate::replay::count_rows;
 use crate::stage::Stage;
 use mt_batch_plan::BatchCall;
 use mt_chain::Keeper;
@@ -197,6 +199,14 @@ impl<K: Keeper> World<K> {
         ensures world { IsWorld self.now }
     {
         self.stage.calls
+    }
+
+    /// How many rows the table has, found by a replay of the history on copies of the rows at opening:
+    /// it takes time and memory for them all. The one error is want of memory.
+    pub fn rows(&self, alloc: Global) -> Result<u64, NoMemory>
+        ensures { IfOk result (CountsRows self.now) }
+    {
+        count_rows(alloc, &self.base, self.stage.entries())
     }
 
     /// The stores, as they are.
