@@ -1,6 +1,6 @@
 -- How an operation came out over a world.
-use Rattle.std.proofs.Common.{◌≡◌, ◌≢◌, ℕ, ◌+◌, ◌-◌, ◌^◌, ◌≤◌, min, Bool, true, false, List, [], ◌∷◌, ◌++◌, length, take, drop, filter, Option, Some, None, Ok, Err, refl, sym, ap, ◌∙◌, arith, subst, append_assoc, append-nil, inl, inr}
-use Rattle.std.specs.Prelude.{All, not, is_some, IfSome, ◌⊎◌}
+use Rattle.std.proofs.Common.{◌≡◌, ℕ, ◌-◌, ◌≤◌, true, false, List, [], ◌∷◌, ◌++◌, length, take, drop, Option, Some, None, Ok, Err, refl, sym, ap, ◌∙◌, arith, subst, append-nil}
+use Rattle.std.specs.Prelude.{All, not, is_some, IfSome}
 use Rattle.std.proofs.Math.Seq.{take-length, take-append_seam, drop-append_seam}
 use Rattle.std.proofs.lemmas.List.{drop_all}
 use Rattle.std.proofs.lemmas.List.Elements.{All-nil, All-cons}
@@ -8,7 +8,6 @@ use Rattle.mt_model.specs.declared.tag.Tag.{Tag}
 use Rattle.mt_chain.specs.declared.op.Op.{Op}
 use Rattle.mt_chain.specs.declared.op.Cause.{Cause}
 use Rattle.mt_chain.specs.declared.op.Refusal.{Refusal}
-use Rattle.mt_chain.specs.Store.{Rose}
 use Rattle.mt_chain.specs.Table.{Table, table_of}
 use Rattle.mt_chain.specs.Batch.{cause_in, refusal_of, refusal_at, batch_weight}
 use Rattle.mt_history.specs.declared.entry.What.{What}
@@ -21,13 +20,13 @@ use Rattle.mt_history.specs.Replies.{rows_of, refusal_reply}
 use Rattle.mt_world.specs.declared.actor.Answer.TheVariants as answer
 use Rattle.mt_world.specs.declared.actor.TurnFault.TheVariants as fault
 use Rattle.mt_world.specs.Worlds.{WorldState, Tells, table_now}
-use Rattle.mt_world.specs.Turns.{IsSameWorld, EitherRose, Answers, entries_with, entry_of}
+use Rattle.mt_world.specs.Turns.{IsSameWorld, Answers, entries_with, entry_of}
 use Rattle.mt_front.specs.declared.refusals.BadRequest.{BadRequest}
 use Rattle.mt_front.specs.declared.asks.Asked.{Asked}
 use Rattle.mt_front.specs.declared.asks.Asked.TheVariants as asked
 use Rattle.mt_front.specs.declared.asks.Echo.{Echo}
 use Rattle.mt_front.specs.Answers.{Said, Bad, Done, Refused, Fault, Full, Exchange, what_of, found, table_found, HadRoom, IsRefusedAt, NoneOf, StandsAt, FitsAt, place_after}
-use Rattle.mt_front.specs.Session.{past_of}
+use Rattle.mt_front.specs.Session.{past_of, ToldBefore}
 use Rattle.mt_front.specs.Turns.{Stays, CameOut}
 use Rattle.mt_front.proofs.FitLaws.{past_with}
 
@@ -49,14 +48,25 @@ same_then u v w p q = record {
   new_faults = q.new_faults ∙ p.new_faults;
 }
 
+-- ---- stores that tell told before
+
+pub told_self : (w : WorldState) → ToldBefore w w
+told_self w = record { old_told = λ e. e; new_told = λ e. e }
+
+pub told_then : (u v w : WorldState) → ToldBefore u v → ToldBefore v w → ToldBefore u w
+told_then u v w p q = record { old_told = λ e. p.old_told (q.old_told e); new_told = λ e. p.new_told (q.new_told e) }
+
+pub tells_before : (w w' : WorldState) → ToldBefore w w' → Tells w' → Tells w
+tells_before w w' p t = record { old = p.old_told t.old; new = p.new_told t.new }
+
 pub stays_self : (w : WorldState) → Stays w w
-stays_self w = record { same = same_self w; tells = λ t. t; entries = refl; old_faults = omega arith; new_faults = omega arith }
+stays_self w = record { same = same_self w; told = told_self w; entries = refl; old_faults = omega arith; new_faults = omega arith }
 
 -- a refusal before anything is tried does nothing
 pub came_bad : (w : WorldState) (r : BadRequest) → CameOut w (asked.Refused r) (Bad r) w
 came_bad w r = record {
   same = same_self w;
-  tells = λ t. t;
+  told = told_self w;
   entries = refl;
   room = tt;
   refused = tt;
@@ -81,9 +91,9 @@ take_old xs (Some w) = take-append_seam xs (entry_of xs 0 w ∷ [])
 
 -- ---- from the world's clause
 
-told_then : {A : Type 0} (x : Option A) (Q : Type 0) → is_some x ≡ true → IfSome x (λ a. Q) → Q
-told_then None Q e h = absurd (let f : false ≡ true = e in cc)
-told_then (Some a) Q e h = h
+if_told : {A : Type 0} (x : Option A) (Q : Type 0) → is_some x ≡ true → IfSome x (λ a. Q) → Q
+if_told None Q e h = absurd (let f : false ≡ true = e in cc)
+if_told (Some a) Q e h = h
 
 reply_some : (refusal : Refusal) (o : Option Refusal) → reply.Refused refusal ≡ refusal_reply o → o ≡ Some refusal
 reply_some refusal None e = absurd (let f : reply.Refused refusal ≡ reply.NoReply = e in cc)
@@ -109,12 +119,12 @@ module _ (w w' : WorldState) (op : Op) (same : IsSameWorld w w') (o : Option Wha
   table_was = ap (λ (l : List Entry). replay (table_of (rows_of w'.base)) l) old_entries ∙ ap (λ b. replay (table_of (rows_of b)) w.history.entries) same.base
 
 module _ (w w' : WorldState) (op : Op) (echo : Echo) where
-  pub came_done : (tags : List Tag) (tag : Tag) → tags ≡ tag ∷ [] → Answers w 0 (op ∷ []) (Ok (answer.Written tags)) w' → CameOut w (asked.Write op echo) (Done tag) w'
-  came_done tags tag one a =
+  pub came_done : (tags : List Tag) (tag : Tag) → tags ≡ tag ∷ [] → ToldBefore w w' → Answers w 0 (op ∷ []) (Ok (answer.Written tags)) w' → CameOut w (asked.Write op echo) (Done tag) w'
+  came_done tags tag one told a =
       let entries : w'.history.entries ≡ entries_with w.history.entries 0 (Some (what.Batch (op ∷ []) (tag ∷ []))) = a.entries ∙ ap (λ ts. entries_with w.history.entries 0 (Some (what.Batch (op ∷ []) ts))) one in
       record {
         same = a.same;
-        tells = a.tells;
+        told = told;
         entries = entries;
         room = a.full ∙ ap not (sym (room_found w w' op a.same (Some (what.Batch (op ∷ []) (tag ∷ []))) entries));
         refused = tt;
@@ -123,25 +133,25 @@ module _ (w w' : WorldState) (op : Op) (echo : Echo) where
         new_faults = a.new_faults;
       }
 
-  pub came_refused : (refusal : Refusal) → Answers w 0 (op ∷ []) (Ok (answer.Refused refusal)) w' → CameOut w (asked.Write op echo) (Refused refusal.cause) w'
-  came_refused refusal a =
+  pub came_refused : (refusal : Refusal) → ToldBefore w w' → Answers w 0 (op ∷ []) (Ok (answer.Refused refusal)) w' → CameOut w (asked.Write op echo) (Refused refusal.cause) w'
+  came_refused refusal told a =
       record {
         same = a.same;
-        tells = a.tells;
+        told = told;
         entries = a.entries;
         room = a.full ∙ ap not (sym (room_found w w' op a.same (Some (what.Refused (op ∷ []))) a.entries));
         refused = λ t.
-            let replied : reply.Refused refusal ≡ refusal_reply (refusal_of (op ∷ []) (table_now w)) = told_then w'.new_store.told _ t.new (told_then w'.old_store.told _ t.old a.replies) in
+            let replied : reply.Refused refusal ≡ refusal_reply (refusal_of (op ∷ []) (table_now w)) = if_told w'.new_store.told _ t.new (if_told w'.old_store.told _ t.old a.replies) in
             ap (refusal_of (op ∷ [])) (table_was w w' op a.same (Some (what.Refused (op ∷ []))) a.entries) ∙ cause_first refusal (cause_in (table_now w) op) op (table_now w) refl (reply_some refusal (refusal_of (op ∷ []) (table_now w)) replied);
         cause = λ e. absurd (let h : false ≡ true = e in cc);
         old_faults = a.old_faults;
         new_faults = a.new_faults;
       }
 
-  pub came_fault : Answers w 0 (op ∷ []) (Err fault.StoreFault) w' → CameOut w (asked.Write op echo) Fault w'
-  came_fault a = record {
+  pub came_fault : ToldBefore w w' → Answers w 0 (op ∷ []) (Err fault.StoreFault) w' → CameOut w (asked.Write op echo) Fault w'
+  came_fault told a = record {
     same = a.same;
-    tells = a.tells;
+    told = told;
     entries = a.entries;
     room = a.full ∙ ap not (sym (room_found w w' op a.same (Some what.Fault) a.entries));
     refused = tt;
@@ -150,10 +160,10 @@ module _ (w w' : WorldState) (op : Op) (echo : Echo) where
     new_faults = a.new_faults;
   }
 
-  pub came_full : Answers w 0 (op ∷ []) (Err fault.HistoryFull) w' → CameOut w (asked.Write op echo) Full w'
-  came_full a = record {
+  pub came_full : ToldBefore w w' → Answers w 0 (op ∷ []) (Err fault.HistoryFull) w' → CameOut w (asked.Write op echo) Full w'
+  came_full told a = record {
     same = a.same;
-    tells = a.tells;
+    told = told;
     entries = a.entries;
     room = a.full ∙ ap not (sym (room_found w w' op a.same None a.entries));
     refused = tt;
@@ -162,8 +172,8 @@ module _ (w w' : WorldState) (op : Op) (echo : Echo) where
     new_faults = a.new_faults;
   }
 
-pub came_to_nothing : (w w' : WorldState) (op : Op) → Answers w 0 (op ∷ []) (Err fault.NoMemory) w' → Stays w w'
-came_to_nothing w w' op a = record { same = a.same; tells = a.tells; entries = a.entries; old_faults = a.old_faults; new_faults = a.new_faults }
+pub came_to_nothing : (w w' : WorldState) (op : Op) → ToldBefore w w' → Answers w 0 (op ∷ []) (Err fault.NoMemory) w' → Stays w w'
+came_to_nothing w w' op told a = record { same = a.same; told = told; entries = a.entries; old_faults = a.old_faults; new_faults = a.new_faults }
 
 -- ---- an exchange that came out fits where it stands
 

@@ -1,10 +1,10 @@
 -- How the exchanges of a connection go on fitting a history that grows.
-use Rattle.std.proofs.Common.{◌≡◌, ◌≢◌, ℕ, ◌+◌, ◌-◌, ◌≤◌, List, [], ◌∷◌, ◌++◌, length, take, drop, Option, Some, None, refl, sym, ap, ◌∙◌, arith, subst}
-use Rattle.std.specs.Prelude.{not, All}
+use Rattle.std.proofs.Common.{◌≡◌, ◌≢◌, ℕ, ◌+◌, ◌-◌, ◌≤◌, List, [], ◌∷◌, ◌++◌, length, take, drop, Option, Some, None, sym, ap, ◌∙◌, arith, subst}
+use Rattle.std.specs.Prelude.{not}
 use Rattle.std.proofs.lemmas.List.{take-append-le, drop-append-le, take_rest, length-drop}
 use Rattle.std.proofs.lemmas.List.Elements.{All-append}
 use Rattle.mt_chain.specs.Table.{Table}
-use Rattle.mt_chain.specs.Batch.{refusal_of, refusal_at, batch_weight}
+use Rattle.mt_chain.specs.Batch.{refusal_of, batch_weight}
 use Rattle.mt_history.specs.declared.entry.What.{What}
 use Rattle.mt_history.specs.declared.entry.Entry.{Entry}
 use Rattle.mt_history.specs.Kept.{has_room}

@@ -1,7 +1,8 @@
 mod AskLaws
 mod BodyKeyLaws
+mod CallLaws
 mod CameLaws
-mod FitLaws
+pub mod FitLaws
 mod RefusalLaws
 mod ReplyLaws
 mod TalkLaws

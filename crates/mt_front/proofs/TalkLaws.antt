@@ -1,5 +1,5 @@
 -- How the turns of a session add up.
-use Rattle.std.proofs.Common.{◌≡◌, ◌≢◌, ℕ, ◌+◌, ◌-◌, ◌^◌, ◌≤◌, min, Bool, true, false, List, [], ◌∷◌, ◌++◌, length, drop, filter, Option, Some, None, Ok, Err, refl, sym, ap, ◌∙◌, arith, subst, append_assoc, append-nil, length-append, inl, inr}
+use Rattle.std.proofs.Common.{◌≡◌, ◌≢◌, ℕ, ◌+◌, ◌-◌, ◌^◌, ◌≤◌, min, Bool, true, false, List, [], ◌∷◌, ◌++◌, length, Option, Some, None, Ok, Err, refl, sym, ap, ◌∙◌, arith, subst, append_assoc, append-nil, length-append, inl, inr}
 use Rattle.std.specs.Prelude.{All, Result, IfSome, ◌⊎◌}
 use Rattle.std.proofs.lemmas.Bool.{cases_lt}
 use Rattle.std.proofs.lemmas.List.Elements.{All-nil, All-append}
@@ -10,25 +10,22 @@ use Rattle.mt_chain.specs.Table.{table_of}
 use Rattle.mt_history.specs.declared.entry.Entry.{Entry}
 use Rattle.mt_history.specs.Replies.{rows_of}
 use Rattle.mt_world.specs.Worlds.{WorldState, Tells, IsWorld}
-use Rattle.mt_world.specs.Turns.{EitherRose}
 use Rattle.mt_plain.specs.declared.request.PlainRequest.{PlainRequest}
 use Rattle.mt_plain.specs.Requests.{Request, print_request}
-use Rattle.mt_plain.specs.Left.{Later, Took, Broke, IsUnsupported}
+use Rattle.mt_plain.specs.Left.{Later, Took, Broke}
 use Rattle.mt_front.specs.declared.asks.Asked.{Asked}
-use Rattle.mt_front.specs.declared.session.End.{End}
-use Rattle.mt_front.specs.declared.session.End.TheVariants.{Input as AtEnd, BadInput}
-use Rattle.mt_front.specs.declared.session.Served.{Served}
-use Rattle.mt_front.specs.declared.session.ConnFault.{ConnFault}
-use Rattle.mt_front.specs.declared.session.ConnFault.TheVariants.{ReadFault, WriteFault, NoMemory}
-use Rattle.mt_front.specs.declared.session.Turn.{Turn}
-use Rattle.mt_front.specs.declared.session.Turn.TheVariants.{Answered, Ended}
+use Rattle.mt_front.specs.declared.connection.End.TheVariants.{Input as AtEnd, BadInput}
+use Rattle.mt_front.specs.declared.connection.Served.{Served}
+use Rattle.mt_front.specs.declared.connection.ConnFault.{ConnFault}
+use Rattle.mt_front.specs.declared.connection.ConnFault.TheVariants.{ReadFault, WriteFault, NoMemory}
+use Rattle.mt_front.specs.declared.connection.Turn.TheVariants.{Answered, Ended}
 use Rattle.mt_front.specs.Refusals.{unsupported_reply}
 use Rattle.mt_front.specs.Asks.{Asks}
-use Rattle.mt_front.specs.Answers.{Said, Exchange, IsExchange, AreExchanges, IsReplyTo, bytes_of, written_of, Past, FitsFrom, what_of, is_fault, faults_of}
-use Rattle.mt_front.specs.Session.{Sent, Cut, past_of, Added, AreCaused, Talk, SessionAs, Serves}
-use Rattle.mt_front.specs.Turns.{Stays, CameOut, RepliedAs, Replies, Answering, AnswersAs, AnswersOne, AnswersPlain, AnswersPlainAs, AnswersRequest, OneMore, TurnAs, Turned}
+use Rattle.mt_front.specs.Answers.{Said, Exchange, IsExchange, AreExchanges, IsReplyTo, bytes_of, written_of, FitsFrom, what_of, is_fault, faults_of}
+use Rattle.mt_front.specs.Session.{Sent, Cut, past_of, AreCaused, Talk, SessionAs, Serves}
+use Rattle.mt_front.specs.Turns.{Stays, CameOut, Replies, AnswersAs, AnswersOne, AnswersPlainAs, AnswersRequest, OneMore, TurnAs, Turned}
 use Rattle.mt_front.proofs.FitLaws.{past_with, fits_sooner, fits_more}
-use Rattle.mt_front.proofs.CameLaws.{same_self, same_then, own, own_callers, entries_are, past_is, fits_now, none_behind}
+use Rattle.mt_front.proofs.CameLaws.{same_self, same_then, told_self, told_then, tells_before, own, own_callers, entries_are, past_is, fits_now, none_behind}
 
 -- ---- bytes sent one after the other
 
@@ -159,7 +156,7 @@ talk_start table w known = record {
   fits = subst (λ (l : List Entry). All (λ (e : Entry). e.caller ≢ 0) l) (sym (drop-length w.history.entries)) (All-nil (λ (e : Entry). e.caller ≢ 0));
   added = record { more = []; grew = sym (append-nil w.history.entries); own = All-nil (λ (e : Entry). e.caller ≡ 0) };
   same = same_self w;
-  tells = λ t. t;
+  told = told_self w;
   caused = inl (omega arith);
 }
 
@@ -176,7 +173,7 @@ module _ (table : List ℕ) (u w w' : WorldState) (known known' known'' : Option
         ∙ ap (λ b. before_known b known'') (sym (bytes_more es e));
     fits = subst (λ p. FitsFrom 0 (Tells w') p (length u.history.entries) (es ++ e ∷ [])) (sym (past_is w w' e.asks e.said came))
         (fits_more 0 (Tells w') (table_of (rows_of w.base)) w.history.limit w.history.entries (own w.history.entries (what_of e.asks e.said)) e place (fits_now w w' e came place) (none_behind w w' e came place)
-        (length u.history.entries) es began (fits_sooner 0 (Tells w) (Tells w') came.tells (past_of w) (length u.history.entries) es talk.fits));
+        (length u.history.entries) es began (fits_sooner 0 (Tells w) (Tells w') (tells_before w w' came.told) (past_of w) (length u.history.entries) es talk.fits));
     added = record {
       more = talk.added.more ++ own w.history.entries (what_of e.asks e.said);
       grew = entries_are w w' e.asks e.said came ∙ ap (λ (l : List Entry). l ++ own w.history.entries (what_of e.asks e.said)) talk.added.grew
@@ -184,7 +181,7 @@ module _ (table : List ℕ) (u w w' : WorldState) (known known' known'' : Option
       own = All-append (λ (x : Entry). x.caller ≡ 0) talk.added.more (own w.history.entries (what_of e.asks e.said)) talk.added.own (own_callers w.history.entries (what_of e.asks e.said));
     };
     same = same_then u w w' talk.same came.same;
-    tells = λ t. talk.tells (came.tells t);
+    told = told_then u w w' talk.told came.told;
     caused = caused_more u w w' es e came talk.caused (is_fault e.said) refl;
   }
 
@@ -198,10 +195,10 @@ module _ (table : List ℕ) (u w w' : WorldState) (known known' known'' : Option
   talk_stays s = record {
     are = talk.are;
     read = talk.read;
-    fits = subst (λ p. FitsFrom 0 (Tells w') p (length u.history.entries) es) (sym (past_stays s)) (fits_sooner 0 (Tells w) (Tells w') s.tells (past_of w) (length u.history.entries) es talk.fits);
+    fits = subst (λ p. FitsFrom 0 (Tells w') p (length u.history.entries) es) (sym (past_stays s)) (fits_sooner 0 (Tells w) (Tells w') (tells_before w w' s.told) (past_of w) (length u.history.entries) es talk.fits);
     added = record { more = talk.added.more; grew = s.entries ∙ talk.added.grew; own = talk.added.own };
     same = same_then u w w' talk.same s.same;
-    tells = λ t. talk.tells (s.tells t);
+    told = told_then u w w' talk.told s.told;
     caused = caused_later u w w' es s.old_faults s.new_faults talk.caused;
   }
 

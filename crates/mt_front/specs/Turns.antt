@@ -1,9 +1,8 @@
 -- One turn of a session: one request read, answered over the world, and its reply written.
-use Rattle.std.specs.Prelude.{◌≡◌, ◌⊎◌, ℕ, ◌+◌, ◌≤◌, Bool, true, List, [], ◌∷◌, length, Option, Result, Ok, Err, IfSome}
+use Rattle.std.specs.Prelude.{◌≡◌, ◌⊎◌, ℕ, ◌≤◌, true, List, [], length, Option, Result, Ok, Err, IfSome}
 use Rattle.mt_io.specs.Ends.{Input, Output}
 use Rattle.mt_model.specs.declared.text.NoMemory.{NoMemory as NoRoom}
 use Rattle.mt_chain.specs.declared.op.Op.{Op}
-use Rattle.mt_history.specs.declared.entry.Entry.{Entry}
 use Rattle.mt_world.specs.Worlds.{WorldState, Tells}
 use Rattle.mt_world.specs.Turns.{IsSameWorld, EitherRose, entries_with}
 use Rattle.mt_plain.specs.declared.request.PlainRequest.{PlainRequest}
@@ -11,24 +10,24 @@ use Rattle.mt_plain.specs.Left.{Took, Broke, IsUnsupported}
 use Rattle.mt_front.specs.declared.asks.Asked.{Asked}
 use Rattle.mt_front.specs.declared.asks.Asked.TheVariants as asked
 use Rattle.mt_front.specs.declared.asks.Echo.{Echo}
-use Rattle.mt_front.specs.declared.session.End.TheVariants.{Input as AtEnd, BadInput}
-use Rattle.mt_front.specs.declared.session.ConnFault.{ConnFault}
-use Rattle.mt_front.specs.declared.session.ConnFault.TheVariants.{ReadFault, WriteFault, NoMemory}
-use Rattle.mt_front.specs.declared.session.Outcome.{Outcome}
-use Rattle.mt_front.specs.declared.session.Outcome.TheVariants as outcome
-use Rattle.mt_front.specs.declared.session.Turn.{Turn}
-use Rattle.mt_front.specs.declared.session.Turn.TheVariants.{Answered, Ended}
+use Rattle.mt_front.specs.declared.connection.End.TheVariants.{Input as AtEnd, BadInput}
+use Rattle.mt_front.specs.declared.connection.ConnFault.{ConnFault}
+use Rattle.mt_front.specs.declared.connection.ConnFault.TheVariants.{ReadFault, WriteFault, NoMemory}
+use Rattle.mt_front.specs.declared.connection.Outcome.{Outcome}
+use Rattle.mt_front.specs.declared.connection.Outcome.TheVariants as outcome
+use Rattle.mt_front.specs.declared.connection.Turn.{Turn}
+use Rattle.mt_front.specs.declared.connection.Turn.TheVariants.{Answered, Ended}
 use Rattle.mt_front.specs.Refusals.{unsupported_reply}
 use Rattle.mt_front.specs.Asks.{Asks}
 use Rattle.mt_front.specs.Answers.{Said, Done, Refused, Fault, Full, what_of, is_fault, HadRoom, IsRefusedAt, IsReplyTo}
-use Rattle.mt_front.specs.Session.{Sent, Cut, past_of}
+use Rattle.mt_front.specs.Session.{Sent, Cut, past_of, ToldBefore}
 
 -- ---- over the world
 
 -- no entry was added
 pub record Stays (w w' : WorldState) : Type 0 where
   pub same : IsSameWorld w w'
-  pub tells : Tells w' → Tells w
+  pub told : ToldBefore w w'
   pub entries : w'.history.entries ≡ w.history.entries
   pub old_faults : w.old_store.faults ≤ w'.old_store.faults
   pub new_faults : w.new_store.faults ≤ w'.new_store.faults
@@ -36,7 +35,7 @@ pub record Stays (w w' : WorldState) : Type 0 where
 -- what is asked for came out so, and its entry, where it has one, stands behind those that were there
 pub record CameOut (w : WorldState) (asks : Asked) (said : Said) (w' : WorldState) : Type 0 where
   pub same : IsSameWorld w w'
-  pub tells : Tells w' → Tells w
+  pub told : ToldBefore w w'
   pub entries : w'.history.entries ≡ entries_with w.history.entries 0 (what_of asks said)
   pub room : HadRoom (past_of w') (length w.history.entries) asks said
   pub refused : IsRefusedAt (Tells w') (past_of w') (length w.history.entries) asks said
