@@ -4,9 +4,5 @@ pub mod PutLaws
 pub mod JudgeLaws
 pub mod OrderLaws
 pub mod SearchLaws
-mod ChangeLaws
-mod AnswerLaws
-mod TagLaws
-mod MemoryLaws
 pub mod BatchLaws
 mod ModelLaws

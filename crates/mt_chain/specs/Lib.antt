@@ -5,9 +5,6 @@ pub mod Store
 pub mod Asks
 pub mod Shelf
 pub mod Places
-pub mod Memory
-pub mod Changes
-pub mod MemoryShelf
 pub mod Table
 pub mod Effect
 pub mod Batch

@@ -1,8 +1,8 @@
 //! The table server over standard input, standard output and two stores in memory.
 #![tactic(auto)]
 
-use mt_chain::{MemDepot, MemKeeper};
 use mt_io::{ReadSource, WriteSink};
+use mt_mem::{MemDepot, MemKeeper};
 use std::alloc::Global;
 use std::env;
 use std::io::{self, ErrorKind};

@@ -2,7 +2,8 @@ ghost use Rattle.std.specs.Prelude.{IfOk};
 ghost use Rattle.mt_chain.specs.Puts.{CanApply};
 
 use crate::reading::{Loaded, read_store};
-use mt_chain::{Keeper, MemKeeper, Put, Puts};
+use mt_chain::{Keeper, Put, Puts};
+use mt_mem::MemKeeper;
 use mt_model::{Props, Text};
 use std::alloc::Global;
 use std::test::Fail;

@@ -1,6 +1,6 @@
 use super::run;
-use mt_chain::{MemDepot, MemKeeper};
 use mt_io::{MemSink, MemSource};
+use mt_mem::{MemDepot, MemKeeper};
 use std::alloc::Global;
 use std::test::Fail;
 

@@ -1,0 +1,17 @@
+use Rattle.std.proofs.Common.{◌≡◌, ◌++◌, ◌∷◌, [], length, ap, sym, subst, ◌∙◌, arith}
+use Rattle.std.specs.List.Sorted.{IsStrictlySortedBy}
+use Rattle.std.specs.Ordering.{nat_cmp}
+use Rattle.std.specs.Cmp.Lexicographic.{slice_cmp}
+use Rattle.mt_mem.proofs.AnswerLaws.{one_rising}
+use Rattle.mt_mem.proofs.tests.query.Goals as goal
+
+pub returns : goal.returns
+returns c =
+    let name = c.in_ok-of.field-0 in
+    let names : c.of-3.result ≡ name ∷ [] = c.of-3.ensures ∙ c.in_ok-push.ensures.items ∙ ap (λ ns. ns ++ name ∷ []) c.new-names.ensures.items in
+    let long = ap length names in
+    record {
+      few = omega (arith, long);
+      rising = subst (IsStrictlySortedBy (slice_cmp nat_cmp)) (sym names) (one_rising name);
+      limit = c.requires;
+    }

@@ -1,0 +1,5 @@
+pub mod Entries
+pub mod Memory
+pub mod Changes
+pub mod Rewriting
+pub mod MemoryShelf
