@@ -4,3 +4,5 @@ pub mod Rules
 pub mod ShownLaws
 pub mod ModeLaws
 pub mod Growth
+pub mod StorePuts
+pub mod Parts

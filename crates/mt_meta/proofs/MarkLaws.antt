@@ -1,5 +1,5 @@
 -- What is stored reads back.
-use Rattle.std.proofs.Common.{◌≡◌, ◌≢◌, ℕ, Bool, true, false, not, cond, List, [], ◌∷◌, Option, Some, None, refl, ap, ◌∙◌, option_map}
+use Rattle.std.proofs.Common.{◌≡◌, ◌≢◌, ℕ, Bool, true, false, not, cond, List, [], ◌∷◌, Option, Some, None, refl, sym, ap, ◌∙◌, option_map}
 use Rattle.std.specs.Prelude.{bytes_eq, filter, codes, find, IsPermutation}
 use Rattle.std.proofs.lemmas.List.{nil_from_length}
 use Rattle.std.proofs.lemmas.List.Sorted.{length_permutation}
@@ -43,9 +43,15 @@ visible_step true which p qs e h =
 visible_step false which p qs e h = h
 
 -- no visible property has a hidden one's name
-visible_value : (which : Hidden) (ps : List Prop) → value_at (filter is_visible ps) (hidden_name which) ≡ None
+pub visible_value : (which : Hidden) (ps : List Prop) → value_at (filter is_visible ps) (hidden_name which) ≡ None
 visible_value which [] = refl
 visible_value which (p ∷ ps) = visible_step (is_visible p) which p (filter is_visible ps) refl (visible_value which ps)
+
+-- properties of a client have no mark
+pub client_unmarked : (ps : List Prop) → filter is_visible ps ≡ ps → mark_of ps ≡ None
+client_unmarked ps h =
+    let k : hidden_text ps hidden.Kind ≡ None = ap text_of (ap (λ (qs : List Prop). value_at qs (hidden_name hidden.Kind)) (sym h) ∙ visible_value hidden.Kind ps) in
+    rw k refl
 
 -- `$kind` alone was put on visible properties
 abbrev kind_put : List ℕ → List Prop → List Prop

@@ -3,9 +3,9 @@ use Rattle.std.proofs.Common.{◌≡◌, ℕ, ◌≤◌, Bool, true, false, refl
 use Rattle.std.specs.Prelude.{nat_le}
 use Rattle.std.proofs.lemmas.Bool.Decides.{nat_tests}
 use Rattle.mt_chain.specs.declared.row.Stored.{Stored}
-use Rattle.mt_meta.specs.Logical.{Pair, OldState, NoOld, AtUseOld, AtPreferOld, AtPreferNew, BadOld, NewState, NoNew, AtFilling, AtUseNew, BadNew, old_at, new_at, old_state_at, new_state_at}
+use Rattle.mt_meta.specs.Logical.{Pair, OldState, NoOld, AtUseOld, AtPreferOld, AtPreferNew, BadOld, NewState, NoNew, AtFilling, AtUseNew, BadNew, old_at, new_at, old_state_at, new_state_at, from_old}
 use Rattle.mt_meta.specs.Sound.{IsSound}
-use Rattle.mt_meta.specs.Modes.{Mode, Empty, AtOld, Prepared, Copying, Overlaid, Settled, NewOnly, Broken, mode_of, mode, rank, FitsMode}
+use Rattle.mt_meta.specs.Modes.{Mode, Empty, AtOld, Prepared, Copying, Overlaid, Settled, NewOnly, Broken, mode_of, mode, rank, FitsMode, shown_in}
 use Rattle.mt_meta.specs.Facts.{is_begun, is_there, is_prefer_new, is_marked, is_filling, is_use_new}
 use Rattle.mt_meta.proofs.Rules.{to_modes, empty_key}
 
@@ -205,3 +205,40 @@ ranks_filling p pk s low high = subst (λ x. is_filling x ≡ true) (sym (says p
 
 pub overlaid_turned : (p : Pair) (pk : List ℕ) → IsSound p → mode p pk ≡ Overlaid → is_prefer_new (old_state_at p pk) ≡ true
 overlaid_turned p pk s e = ap is_prefer_new (says p s pk).old ∙ ap (λ m. is_prefer_new (old_in m)) e
+
+-- ---- where clients write old
+
+-- where old has a marker and is not turned, clients see its rows
+pub early_shows : (m : Mode) → 1 ≤ rank m → rank m ≤ 3 → (row entry : Option Stored) → shown_in m row entry ≡ from_old row
+early_shows Empty low high row entry = absurd (omega arith)
+early_shows AtOld low high row entry = refl
+early_shows Prepared low high row entry = refl
+early_shows Copying low high row entry = refl
+early_shows Overlaid low high row entry = absurd (omega arith)
+early_shows Settled low high row entry = absurd (omega arith)
+early_shows NewOnly low high row entry = absurd (omega arith)
+early_shows Broken low high row entry = absurd (omega arith)
+
+-- and new's entries fit whatever they are
+pub early_fits : (m : Mode) → 1 ≤ rank m → rank m ≤ 3 → (row row' entry : Option Stored) → FitsMode m row entry → FitsMode m row' entry
+early_fits Empty low high row row' entry h = absurd (omega arith)
+early_fits AtOld low high row row' entry h = h
+early_fits Prepared low high row row' entry h = h
+early_fits Copying low high row row' entry h = h
+early_fits Overlaid low high row row' entry h = absurd (omega arith)
+early_fits Settled low high row row' entry h = absurd (omega arith)
+early_fits NewOnly low high row row' entry h = absurd (omega arith)
+early_fits Broken low high row row' entry h = absurd (omega arith)
+
+unsealed_mode : (n : NewState) → IsWhole (mode_of NoOld n false) → mode_of NoOld n false ≡ Empty
+unsealed_mode NoNew w = refl
+unsealed_mode AtFilling w = absurd w
+unsealed_mode AtUseNew w = absurd w
+unsealed_mode BadNew w = absurd w
+
+-- a partition without a marker in old, which is not sealed, is not there
+pub unsealed_empty : (p : Pair) (pk : List ℕ) → IsSound p → old_state_at p pk ≡ NoOld → p.old.sealed ≡ false → mode p pk ≡ Empty
+unsealed_empty p pk s none open_old =
+    let is : mode p pk ≡ mode_of NoOld (new_state_at p pk) false =
+    ap (λ o. mode_of o (new_state_at p pk) p.old.sealed) none ∙ ap (mode_of NoOld (new_state_at p pk)) open_old in
+    is ∙ unsealed_mode (new_state_at p pk) (subst IsWhole is (whole p s pk))

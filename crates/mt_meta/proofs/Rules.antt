@@ -134,7 +134,7 @@ and_false : (b : Bool) → (b && false) ≡ false
 and_false true = refl
 and_false false = refl
 
-old_read : (store : ℕ) (phase : Phase) → old_phase_of store (marker_props (old_kind phase)) ≡ Some phase
+pub old_read : (store : ℕ) (phase : Phase) → old_phase_of store (marker_props (old_kind phase)) ≡ Some phase
 old_read store UseOld = rw (and_false (nat_lt 0 store)) refl
 old_read store PreferOld = rw (and_false (nat_lt 0 store)) refl
 old_read store PreferNew = rw (and_false (nat_lt 0 store)) refl

@@ -1,0 +1,210 @@
+-- What the puts of a batch do to the rows of the old store, as clients see them.
+use Rattle.std.proofs.Common.{◌≡◌, ℕ, Bool, true, false, cond, not, ◌||◌, ◌&&◌, List, [], ◌∷◌, map, filter, refl, sym, ap, ◌∙◌, bytes_eq, Some, None, Option, Ok, Err}
+use Rattle.std.specs.Prelude.{option_map}
+use Rattle.std.specs.List.{list_any, zip, AllByRecursion}
+use Rattle.std.specs.List.Sorted.{IsStrictlySortedBy}
+use Rattle.std.specs.Result.{result_err}
+use Rattle.std.specs.Ordering.{nat_cmp, is_eq}
+use Rattle.std.specs.declared.cmp.Ordering.TheVariants.{Less}
+use Rattle.std.specs.Cmp.Lexicographic.{slice_cmp, texts_ties, nat_list_eq_equiv}
+use Rattle.mt_model.specs.declared.tag.Tag.{Tag}
+use Rattle.mt_model.specs.declared.value.Prop.{Prop}
+use Rattle.mt_model.specs.declared.name.Hidden.TheVariants as hidden
+use Rattle.mt_model.specs.Name.{is_hidden}
+use Rattle.mt_model.specs.Props.{is_visible, hidden_text, text_of}
+use Rattle.mt_model.specs.Merge.{put_prop, merged}
+use Rattle.mt_model.proofs.Merging.{none-put, or_false}
+use Rattle.mt_chain.specs.declared.row.Stored.{Stored}
+use Rattle.mt_chain.specs.declared.row.StoredRow.{StoredRow}
+use Rattle.mt_chain.specs.declared.op.Op.{Op}
+use Rattle.mt_chain.specs.declared.op.Op.TheVariants.{Insert, Replace, Merge, Delete, InsertOrReplace, InsertOrMerge}
+use Rattle.mt_chain.specs.declared.op.Cause.{Cause}
+use Rattle.mt_chain.specs.declared.op.Cause.TheVariants.{ConditionFailed}
+use Rattle.mt_chain.specs.Rows.{key_at}
+use Rattle.mt_chain.specs.Puts.{row_key, tag_of, tags_of, counter_after}
+use Rattle.mt_chain.specs.Effect.{Outcome, op_key, op_props, meets, writes, limits_cause, unless_refused, merges, effect, any_tag, cause_on, left_by}
+use Rattle.mt_chain.specs.Batch.{names, op_at, row_after}
+use Rattle.mt_chain.proofs.KeyLaws.{is_tied, text_true, text_same}
+use Rattle.mt_chain.proofs.PutLaws as puts
+use Rattle.mt_chain.proofs.PutLaws.{is_named, row_after_unnamed}
+use Rattle.mt_rules.proofs.VisibleLaws.{none_hidden}
+use Rattle.mt_meta.specs.Marks.{seen_tag, seen_in, kept_tag, mark_of}
+use Rattle.mt_meta.specs.Logical.{shown_with}
+use Rattle.mt_meta.specs.Steps.{as_row}
+use Rattle.mt_meta.proofs.MarkLaws.{visible_value}
+use Rattle.mt_batch_plan.specs.Calls.{kept_in, seen_row, put_of, put_on, put_for}
+
+-- ---- visible properties
+
+-- no property is hidden
+abbrev pub AreVisible : List Prop → Type 0
+AreVisible ps = list_any (λ p. is_hidden p.name) ps ≡ false
+
+pub all_visible : (ps : List Prop) → AreVisible ps → filter is_visible ps ≡ ps
+all_visible [] h = refl
+all_visible (p ∷ ps) h =
+    let parts = or_false (is_hidden p.name) (list_any (λ q. is_hidden q.name) ps) h in
+    ap (λ b. cond (not b) (p ∷ filter is_visible ps) (filter is_visible ps)) parts.0 ∙ ap (λ qs. p ∷ qs) (all_visible ps parts.1)
+
+no_kind : (ps : List Prop) → AreVisible ps → hidden_text ps hidden.Kind ≡ None
+no_kind ps h = ap (λ qs. hidden_text qs hidden.Kind) (sym (all_visible ps h)) ∙ ap text_of (visible_value hidden.Kind ps)
+
+visible_merged : (own over : List Prop) → AreVisible own → AreVisible over → AreVisible (merged own over)
+visible_merged own [] h g = h
+visible_merged own (o ∷ over) h g =
+    let parts = or_false (is_hidden o.name) (list_any (λ p. is_hidden p.name) over) g in
+    visible_merged (put_prop o own) over (none-put (λ p. is_hidden p.name) o own parts.0 h) parts.1
+
+-- a row that is there has visible properties alone
+abbrev pub RowVisible : Option Stored → Type 0
+RowVisible None = Unit {0}
+RowVisible (Some row) = AreVisible row.props
+
+with_visible : (ps : List Prop) (tag : Option Tag) → RowVisible (option_map as_row (shown_with ps tag))
+with_visible ps None = tt
+with_visible ps (Some tag) = none_hidden ps
+
+-- clients see visible properties alone
+pub seen_visible : (row : Option Stored) → RowVisible (seen_row row)
+seen_visible None = tt
+seen_visible (Some row) = with_visible row.props (seen_tag row.props row.tag)
+
+-- a row of visible properties shows itself
+pub shows_itself : (ps : List Prop) (tag : Tag) → AreVisible ps → seen_row (Some (record { props = ps; tag = tag })) ≡ Some (record { props = ps; tag = tag })
+shows_itself ps tag h =
+    ap (λ kind. option_map as_row (shown_with ps (seen_in kind (kept_tag (mark_of ps)) tag))) (no_kind ps h)
+    ∙ ap (λ qs. Some (record { props = qs; tag = tag })) (all_visible ps h)
+
+-- ---- effects
+
+-- what is written has that tag
+abbrev pub with_tag : Tag → Outcome → Outcome
+with_tag tag (Ok None) = Ok None
+with_tag tag (Ok (Some row)) = Ok (Some (record { props = row.props; tag = tag }))
+with_tag tag (Err cause) = Err cause
+
+met_tag : (met : Bool) (tag : Tag) (a b : Outcome) → a ≡ with_tag tag b → cond met a (Err ConditionFailed) ≡ with_tag tag (cond met b (Err ConditionFailed))
+met_tag true tag a b e = e
+met_tag false tag a b e = refl
+
+limited_tag : (cause : Option Cause) (ps : List Prop) (tag : Tag) → unless_refused cause (writes ps tag) ≡ with_tag tag (unless_refused cause (writes ps any_tag))
+limited_tag None ps tag = refl
+limited_tag (Some cause) ps tag = refl
+
+-- the tag that an operation would write has no part in what comes of it, but for being written
+pub with_its_tag : (op : Op) (row : Option Stored) (tag : Tag) → effect op row tag ≡ with_tag tag (effect op row any_tag)
+with_its_tag (Insert key props) None tag = refl
+with_its_tag (Insert key props) (Some row) tag = refl
+with_its_tag (Replace key props c) None tag = refl
+with_its_tag (Replace key props c) (Some row) tag = met_tag (meets c row.tag) tag (writes props tag) (writes props any_tag) refl
+with_its_tag (Merge key props c) None tag = refl
+with_its_tag (Merge key props c) (Some row) tag = met_tag (meets c row.tag) tag (merges row.props props tag) (merges row.props props any_tag) (limited_tag (limits_cause (merged row.props props)) (merged row.props props) tag)
+with_its_tag (Delete key c) None tag = refl
+with_its_tag (Delete key c) (Some row) tag = met_tag (meets c row.tag) tag (Ok None) (Ok None) refl
+with_its_tag (InsertOrReplace key props) None tag = refl
+with_its_tag (InsertOrReplace key props) (Some row) tag = refl
+with_its_tag (InsertOrMerge key props) None tag = refl
+with_its_tag (InsertOrMerge key props) (Some row) tag = limited_tag (limits_cause (merged row.props props)) (merged row.props props) tag
+
+-- what an outcome writes is visible
+abbrev pub WritesVisible : Outcome → Type 0
+WritesVisible (Ok row) = RowVisible row
+WritesVisible (Err cause) = Unit {0}
+
+met_visible : (met : Bool) (a : Outcome) → WritesVisible a → WritesVisible (cond met a (Err ConditionFailed))
+met_visible true a h = h
+met_visible false a h = tt
+
+limited_visible : (cause : Option Cause) (ps : List Prop) → AreVisible ps → WritesVisible (unless_refused cause (writes ps any_tag))
+limited_visible None ps h = h
+limited_visible (Some cause) ps h = tt
+
+pub writes_visible : (op : Op) (row : Option Stored) → AreVisible (op_props op) → RowVisible row → WritesVisible (effect op row any_tag)
+writes_visible (Insert key props) None h g = h
+writes_visible (Insert key props) (Some row) h g = tt
+writes_visible (Replace key props c) None h g = tt
+writes_visible (Replace key props c) (Some row) h g = met_visible (meets c row.tag) (writes props any_tag) h
+writes_visible (Merge key props c) None h g = tt
+writes_visible (Merge key props c) (Some row) h g = met_visible (meets c row.tag) (merges row.props props any_tag) (limited_visible (limits_cause (merged row.props props)) (merged row.props props) (visible_merged row.props props g h))
+writes_visible (Delete key c) None h g = tt
+writes_visible (Delete key c) (Some row) h g = met_visible (meets c row.tag) (Ok None) tt
+writes_visible (InsertOrReplace key props) None h g = h
+writes_visible (InsertOrReplace key props) (Some row) h g = h
+writes_visible (InsertOrMerge key props) None h g = h
+writes_visible (InsertOrMerge key props) (Some row) h g = limited_visible (limits_cause (merged row.props props)) (merged row.props props) (visible_merged row.props props g h)
+
+-- ---- the put of one operation
+
+key_of_put : (rk : List ℕ) (row made : Option Stored) → row_key (put_of rk row made) ≡ rk
+key_of_put rk None None = refl
+key_of_put rk None (Some made) = refl
+key_of_put rk (Some row) None = refl
+key_of_put rk (Some row) (Some made) = refl
+
+pub put_key : (rows : List StoredRow) (op : Op) → row_key (put_for rows op) ≡ (op_key op).rk
+put_key rows op =
+    let row = kept_in rows (op_key op).rk in
+    key_of_put (op_key op).rk row (left_by (effect op (seen_row row) any_tag) None)
+
+left_shows : (store n : ℕ) (rk : List ℕ) (row : Option Stored) (made : Outcome) → result_err made ≡ None → WritesVisible made
+    → seen_row (puts.left_by store n (put_of rk row (left_by made None)) row) ≡ left_by (with_tag (tag_of store n (put_of rk row (left_by made None))) made) (seen_row row)
+left_shows store n rk row (Err cause) accepted h = absurd cc
+left_shows store n rk None (Ok None) accepted h = refl
+left_shows store n rk (Some row) (Ok None) accepted h = refl
+left_shows store n rk None (Ok (Some made)) accepted h = shows_itself made.props _ h
+left_shows store n rk (Some row) (Ok (Some made)) accepted h = shows_itself made.props _ h
+
+-- the put of an operation leaves what clients see as the operation's effect on what they saw
+pub put_shows : (store n : ℕ) (op : Op) (row : Option Stored) → AreVisible (op_props op) → cause_on op (seen_row row) ≡ None
+    → seen_row (puts.left_by store n (put_on op row) row) ≡ left_by (effect op (seen_row row) (tag_of store n (put_on op row))) (seen_row row)
+put_shows store n op row visible accepted =
+    left_shows store n (op_key op).rk row (effect op (seen_row row) any_tag) accepted (writes_visible op (seen_row row) visible (seen_visible row))
+    ∙ ap (λ made. left_by made (seen_row row)) (sym (with_its_tag op (seen_row row) (tag_of store n (put_on op row))))
+
+-- ---- the puts of a batch
+
+-- an operation of the partition that is accepted on the row read at its key, which is still what old holds there
+pub record Stands (rows : List StoredRow) (pk : List ℕ) (now : List ℕ → Option Stored) (op : Op) : Type 0 where
+  pub partition : (op_key op).pk ≡ pk
+  pub same : now (op_key op).rk ≡ kept_in rows (op_key op).rk
+  pub visible : AreVisible (op_props op)
+  pub accepted : cause_on op (seen_row (kept_in rows (op_key op).rk)) ≡ None
+
+-- an operation of the partition names a key of it by its row key
+pub names_in : (pk rk : List ℕ) (op : Op) → (op_key op).pk ≡ pk → names (key_at pk rk) op ≡ bytes_eq (op_key op).rk rk
+names_in pk rk op e = is_tied (op_key op) (key_at pk rk) ∙ ap (λ x. bytes_eq x pk && bytes_eq (op_key op).rk rk) e ∙ ap (λ b. b && bytes_eq (op_key op).rk rk) (text_same pk)
+
+below_not_named : (rows : List StoredRow) (rk : List ℕ) (ops : List Op) → AllByRecursion (λ y. slice_cmp nat_cmp rk y ≡ Less) (map (λ op. (op_key op).rk) ops) → is_named rk (map (put_for rows) ops) ≡ false
+below_not_named rows rk [] h = refl
+below_not_named rows rk (op ∷ ops) h =
+    let apart : bytes_eq (row_key (put_for rows op)) rk ≡ false =
+    ap (λ k. bytes_eq k rk) (put_key rows op) ∙ nat_list_eq_equiv.symm (op_key op).rk rk ∙ texts_ties rk (op_key op).rk ∙ ap is_eq h.0 in
+    ap (λ b. b || is_named rk (map (put_for rows) ops)) apart ∙ below_not_named rows rk ops h.1
+
+-- at each row key clients see afterwards the batch on what they saw, where each operation has the tag of its put
+pub rows_show : (store n : ℕ) (rows : List StoredRow) (pk : List ℕ) (now : List ℕ → Option Stored) (ops : List Op) (rk : List ℕ)
+    → AllByRecursion (Stands rows pk now) ops → IsStrictlySortedBy (slice_cmp nat_cmp) (map (λ op. (op_key op).rk) ops)
+    → seen_row (puts.row_after store n (map (put_for rows) ops) rk (now rk)) ≡ row_after (op_at (zip ops (tags_of store n (map (put_for rows) ops))) (key_at pk rk)) (seen_row (now rk))
+unfolding IsStrictlySortedBy
+rows_show store n rows pk now [] rk all rising = refl
+rows_show store n rows pk now (op ∷ ops) rk all rising =
+    go (bytes_eq (op_key op).rk rk) refl (ap (λ k. bytes_eq k rk) (put_key rows op)) (names_in pk rk op all.0.partition)
+    (rows_show store (counter_after n (put_for rows op)) rows pk now ops rk all.1 rising.1) where
+      go : (b : Bool) → bytes_eq (op_key op).rk rk ≡ b → bytes_eq (row_key (put_for rows op)) rk ≡ bytes_eq (op_key op).rk rk → names (key_at pk rk) op ≡ bytes_eq (op_key op).rk rk
+          → seen_row (puts.row_after store (counter_after n (put_for rows op)) (map (put_for rows) ops) rk (now rk)) ≡ row_after (op_at (zip ops (tags_of store (counter_after n (put_for rows op)) (map (put_for rows) ops))) (key_at pk rk)) (seen_row (now rk))
+          → seen_row (puts.row_after store n (map (put_for rows) (op ∷ ops)) rk (now rk)) ≡ row_after (op_at (zip (op ∷ ops) (tags_of store n (map (put_for rows) (op ∷ ops)))) (key_at pk rk)) (seen_row (now rk))
+      go true e k m rest =
+          let row = kept_in rows (op_key op).rk in
+          let tag = tag_of store n (put_for rows op) in
+          let stands : now rk ≡ row = ap now (sym (text_true (op_key op).rk rk e)) ∙ all.0.same in
+          let out : is_named rk (map (put_for rows) ops) ≡ false = ap (λ r. is_named r (map (put_for rows) ops)) (sym (text_true (op_key op).rk rk e)) ∙ below_not_named rows (op_key op).rk ops rising.0 in
+          ap (λ b. seen_row (puts.row_after store (counter_after n (put_for rows op)) (map (put_for rows) ops) rk (cond b (puts.left_by store n (put_for rows op) (now rk)) (now rk)))) (k ∙ e)
+          ∙ ap seen_row (row_after_unnamed store (counter_after n (put_for rows op)) (map (put_for rows) ops) rk (puts.left_by store n (put_for rows op) (now rk)) out)
+          ∙ ap (λ x. seen_row (puts.left_by store n (put_for rows op) x)) stands
+          ∙ put_shows store n op row all.0.visible all.0.accepted
+          ∙ ap (λ x. left_by (effect op (seen_row x) tag) (seen_row x)) (sym stands)
+          ∙ ap (λ b. row_after (cond b (Some (op, tag)) (op_at (zip ops (tags_of store (counter_after n (put_for rows op)) (map (put_for rows) ops))) (key_at pk rk))) (seen_row (now rk))) (sym (m ∙ e))
+      go false e k m rest =
+          ap (λ b. seen_row (puts.row_after store (counter_after n (put_for rows op)) (map (put_for rows) ops) rk (cond b (puts.left_by store n (put_for rows op) (now rk)) (now rk)))) (k ∙ e)
+          ∙ rest
+          ∙ ap (λ b. row_after (cond b (Some (op, tag_of store n (put_for rows op))) (op_at (zip ops (tags_of store (counter_after n (put_for rows op)) (map (put_for rows) ops))) (key_at pk rk))) (seen_row (now rk))) (sym (m ∙ e))
