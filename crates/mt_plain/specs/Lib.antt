@@ -1,3 +1,10 @@
 pub mod Heads
 pub mod Requests
 pub mod Left
+pub mod Reading
+pub mod Runs
+pub mod Fields
+pub mod Targets
+pub mod Openings
+pub mod HeadEnds
+pub mod Filling
