@@ -5,3 +5,9 @@ pub mod OnRead
 pub mod OneOrder
 pub mod Writing
 pub mod BatchLaw
+pub mod FindLaws
+pub mod NameLaws
+pub mod EffectLaws
+pub mod OrderLaws
+pub mod FillLaws
+pub mod CallLaws

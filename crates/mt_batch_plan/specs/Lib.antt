@@ -1,2 +1,4 @@
 pub mod Calls
+pub mod Plans
+pub mod Verdicts
 pub mod BatchSteps

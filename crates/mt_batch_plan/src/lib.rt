@@ -2,7 +2,14 @@
 #![tactic(auto)]
 
 mod call;
+mod judge;
+mod names;
 mod place;
+mod plan;
+mod puts;
+mod saw;
+#[cfg(test)]
+mod tests;
 
 pub use call::{BatchCall, BatchProgress};
 pub use place::Place;

@@ -1,0 +1,66 @@
+//! The read of a batch: the marker's row, and the rows that its operations name.
+ghost use Rattle.std.specs.Prelude.{◌≡◌, ◌≤◌, ◌∷◌, [], IfOk, IsPermutation, map, length};
+ghost use Rattle.std.specs.List.Sorted.{IsSortedBy};
+ghost use Rattle.mt_meta.specs.Markers.{marker_key};
+ghost use Rattle.mt_chain.specs.Effect.{op_key};
+ghost use Rattle.mt_chain.specs.Asks.{CanAsk};
+ghost use Rattle.mt_rules.specs.Batches.{IsBatch};
+ghost use Rattle.mt_batch_plan.specs.Calls.{AreNames, Asks};
+ghost use Rattle.mt_batch_plan.specs.declared.place.Place.TheVariants.{ReadOld};
+ghost use Rattle.mt_batch_plan.specs.Plans.{is_below};
+
+use mt_chain::{Ask, Op, RangeQuery, Side, StoreAsk};
+use mt_model::{NoMemory, Text, Texts};
+use mt_rules::Batch;
+use std::alloc::Global;
+
+/// The row key of a partition's marker.
+pub(crate) const MARKER_KEY: &str = "\u{1}";
+
+/// The marker's key, and then those of the operations in their order.
+fn copy_names(alloc: Global, ops: &[Op]) -> Result<Vec<Text>, NoMemory>
+    ensures { IfOk result (λ v. v.items ≡ marker_key ∷ map (λ op. (op_key op).rk) ops.now) }
+{
+    let mut names = Vec::with_capacity(alloc, ops.len() + 1)?;
+    names.push(Text::of(alloc, MARKER_KEY)?)?;
+    for op in ops {
+        names.push(op.key().rk.copy(alloc)?)?;
+    }
+    Ok(names)
+}
+
+fn sort(names: &mut Vec<Text>)
+    ensures permutation { IsPermutation names.old.items names.new.items }
+    ensures sorted { IsSortedBy is_below names.new.items }
+{
+    names.sort_unstable_by(|a, b| a.cmp(b));
+}
+
+/// The keys of the marker and of the rows that the operations name, rising.
+fn names_of(alloc: Global, ops: &[Op]) -> Result<Texts, NoMemory>
+    requires { IsBatch ops.now }
+    ensures names { IfOk result (AreNames ops.now) }
+    ensures few { IfOk result (λ names. length names ≤ 101) }
+{
+    let mut names = copy_names(alloc, ops)?;
+    sort(&mut names);
+    Ok(Texts::of(names))
+}
+
+/// The read of a batch in the old store. The one error is want of memory.
+pub(crate) fn read_old(alloc: Global, batch: &Batch) -> Result<StoreAsk, NoMemory>
+    ensures asks { IfOk result (Asks batch.now ReadOld) }
+    ensures can { IfOk result (λ a. CanAsk a.ask) }
+{
+    let named = names_of(alloc, batch.ops())?;
+    let pk = batch.partition().copy(alloc)?;
+    let query = RangeQuery {
+        pk,
+        named,
+        range: None,
+    };
+    Ok(StoreAsk {
+        side: Side::Old,
+        ask: Ask::Query(query),
+    })
+}
