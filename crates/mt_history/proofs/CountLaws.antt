@@ -14,7 +14,7 @@ range_more start (suc n) =
     ap (λ xs. start ∷ xs)
     (range_more (start + 1) n ∙ ap (λ x. range_with_len (start + 1) n ++ x ∷ []) (let e : (start + 1) + n ≡ start + suc n = omega arith in e))
 
-last_more : (o : Option ℕ) (xs : List ℕ) (x : ℕ) → last_or o (xs ++ x ∷ []) ≡ Some x
+pub last_more : (o : Option ℕ) (xs : List ℕ) (x : ℕ) → last_or o (xs ++ x ∷ []) ≡ Some x
 last_more o [] x = refl
 last_more o (y ∷ ys) x = last_more (Some y) ys x
 
@@ -55,7 +55,7 @@ number_if : (b : Bool) (e : Entry) → map (λ (x : Entry). x.number) (cond b (e
 number_if true e = refl
 number_if false e = refl
 
-numbers_more : (caller : ℕ) (xs : List Entry) (e : Entry) → numbers_of caller (xs ++ e ∷ []) ≡ numbers_of caller xs ++ cond (nat_eq caller e.caller) (e.number ∷ []) []
+pub numbers_more : (caller : ℕ) (xs : List Entry) (e : Entry) → numbers_of caller (xs ++ e ∷ []) ≡ numbers_of caller xs ++ cond (nat_eq caller e.caller) (e.number ∷ []) []
 numbers_more caller xs e =
     ap (map (λ (x : Entry). x.number)) (filter-append (λ (x : Entry). nat_eq caller x.caller) xs (e ∷ []))
     ∙ map-append (λ (x : Entry). x.number) (filter (λ (x : Entry). nat_eq caller x.caller) xs) (filter (λ (x : Entry). nat_eq caller x.caller) (e ∷ []))

@@ -1,3 +1,5 @@
 pub mod Worlds
+pub mod Logs
 pub mod Turns
 pub mod Opening
+pub mod Replays

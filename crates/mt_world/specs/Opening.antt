@@ -1,5 +1,6 @@
 -- Opening two stores as a world.
-use Rattle.std.specs.Prelude.{◌≡◌, ◌⊎◌, ℕ, ◌≤◌, false, List, [], Result, Ok, Err}
+use Rattle.std.specs.Prelude.{◌≡◌, ◌⊎◌, ℕ, ◌≤◌, Bool, true, false, not, ◌&&◌, is_none, List, [], Result, Ok, Err}
+use Rattle.mt_chain.specs.declared.query.Next.{Next}
 use Rattle.mt_chain.specs.StoreCall.{Contents}
 use Rattle.mt_chain.specs.Store.{Store, Rose, Onward, Same}
 use Rattle.mt_world.specs.declared.opening.OpenFault.{OpenFault}
@@ -50,3 +51,20 @@ pub record ComesBack (s s' : Store) (fault : OpenFault) (t t' : Store) : Type 0 
   pub old_stays : Stays s t
   pub new_stays : Stays s' t'
   pub refused : Refused s s' fault t t'
+
+-- the store showed no partition and no seal
+abbrev pub shows_nothing : Next → Bool
+shows_nothing next = is_none next.pk && not next.sealed
+
+-- a store was asked whether it has no row and is not sealed
+abbrev pub Looks : Store → Result Bool OpenFault → Store → Type 0
+Looks s (Ok true) t = Stays s t × Onward (λ before after. IsFresh after) s.told t.told
+Looks s (Ok false) t = Stays s t × Onward (λ before after. IsFresh after → ⊥) s.told t.told
+Looks s (Err (NotEmpty store)) t = ⊥
+Looks s (Err StoreFault) t = Stays s t × Rose s.faults t.faults
+Looks s (Err NoMemory) t = Stays s t
+
+-- both stores were asked, and may be opened or come back
+abbrev pub Checks : Store → Store → Result (Unit {0}) OpenFault → Store → Store → Type 0
+Checks s s' (Ok u) t t' = Stays s t × Stays s' t' × Onward (λ before after. IsFresh after) s.told t.told × Onward (λ before after. IsFresh after) s'.told t'.told
+Checks s s' (Err fault) t t' = ComesBack s s' fault t t'

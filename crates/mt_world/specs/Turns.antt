@@ -1,10 +1,12 @@
 -- One turn of an actor: at most one store call, and then at most one entry.
 use Rattle.std.specs.Prelude.{◌≡◌, ◌⊎◌, ℕ, zero, suc, ◌+◌, ◌-◌, ◌^◌, ◌≤◌, min, Bool, true, false, not, List, [], ◌∷◌, ◌++◌, Option, Some, None, Result, Ok, Err}
+use Rattle.mt_model.specs.declared.text.NoMemory.{NoMemory as NoMemoryOf}
 use Rattle.mt_model.specs.declared.tag.Tag.{Tag}
 use Rattle.mt_chain.specs.declared.op.Op.{Op}
 use Rattle.mt_chain.specs.declared.op.Refusal.{Refusal}
 use Rattle.mt_chain.specs.declared.ask.Side.{Side}
 use Rattle.mt_chain.specs.declared.ask.Side.TheVariants.{Old, New}
+use Rattle.mt_chain.specs.declared.ask.Ask.{Ask}
 use Rattle.mt_chain.specs.declared.ask.StoreAsk.{StoreAsk}
 use Rattle.mt_chain.specs.declared.ask.StoreReply.{StoreReply}
 use Rattle.mt_chain.specs.declared.ask.CallFault.{CallFault}
@@ -18,14 +20,17 @@ use Rattle.mt_history.specs.declared.entry.What.TheVariants as what
 use Rattle.mt_history.specs.declared.entry.Entry.{Entry}
 use Rattle.mt_history.specs.declared.model.Reply.{Reply}
 use Rattle.mt_history.specs.declared.model.Reply.TheVariants as reply
-use Rattle.mt_history.specs.Kept.{has_room}
+use Rattle.mt_history.specs.Kept.{Kept, has_room}
 use Rattle.mt_history.specs.Replies.{Replies}
 use Rattle.mt_meta.specs.Facts.{Fact, Holds, ApartFrom}
 use Rattle.mt_meta.specs.Steps.{AllHold}
+use Rattle.mt_batch_plan.specs.declared.place.Place.{Place}
 use Rattle.mt_batch_plan.specs.declared.place.Place.TheVariants.{ReadOld}
 use Rattle.mt_batch_plan.specs.declared.call.BatchProgress.{BatchProgress}
 use Rattle.mt_batch_plan.specs.declared.call.BatchProgress.TheVariants as batch
-use Rattle.mt_batch_plan.specs.Calls.{Call, Asks, Absorbs, call_facts}
+use Rattle.mt_batch_plan.specs.Calls.{Call, CallFits, Asks, Absorbs, call_facts}
+use Rattle.mt_world.specs.declared.actor.Request.{Request}
+use Rattle.mt_world.specs.declared.actor.Request.TheVariants as request
 use Rattle.mt_world.specs.declared.actor.ClientCall.{ClientCall}
 use Rattle.mt_world.specs.declared.actor.ClientCall.TheVariants as client
 use Rattle.mt_world.specs.declared.actor.Actor.{Actor}
@@ -45,6 +50,10 @@ abbrev pub CanStep : Actor → Type 0
 CanStep (Client (client.Batch call)) = Unit {0}
 CanStep (Client client.Ended) = ⊥
 
+-- the call of a request, at its beginning
+abbrev pub IsCallOf : Request → ClientCall → Type 0
+IsCallOf (request.Batch batch) call = call ≡ client.Batch (record { batch = batch; place = ReadOld })
+
 -- what an actor knows between its turns
 abbrev pub actor_facts : Actor → List Fact
 actor_facts (Client (client.Batch call)) = call_facts call
@@ -53,6 +62,11 @@ actor_facts (Client client.Ended) = []
 -- it is so in this world
 abbrev pub Knows : WorldState → Actor → Type 0
 Knows w a = ForPair w (λ p. AllHold p w.retired (actor_facts a))
+
+-- what each actor keeps of itself
+abbrev pub ActorFits : Actor → Type 0
+ActorFits (Client (client.Batch call)) = CallFits call
+ActorFits (Client client.Ended) = Unit {0}
 
 -- the room in the history that a turn needs
 abbrev pub need_of : Actor → ℕ
@@ -94,36 +108,48 @@ ActorMoves (Client client.Ended) answer progress after = ⊥
 
 -- ---- the store call
 
-abbrev pub calls_on : Side → WorldState → StoreAsk → Result StoreReply CallFault → WorldState → Type 0
-calls_on Old w ask r w' = Calls w.old_store ask.ask r w'.old_store × (w'.new_store ≡ w.new_store)
-calls_on New w ask r w' = Calls w.new_store ask.ask r w'.new_store × (w'.old_store ≡ w.old_store)
+-- what turns change: the two stores, the history, and the count of store calls
+pub record Stage : Type 0 where
+  pub old_store : Store
+  pub new_store : Store
+  pub history : Kept
+  pub calls : ℕ
+
+abbrev pub stage_of : WorldState → Stage
+stage_of w = record { old_store = w.old_store; new_store = w.new_store; history = w.history; calls = w.calls }
+
+-- a call of the store of that side; the other stays
+abbrev pub CallsOn : Side → Store → Store → Ask → Result StoreReply CallFault → Store → Store → Type 0
+CallsOn Old s s' ask r t t' = Calls s ask r t × (t' ≡ s')
+CallsOn New s s' ask r t t' = Calls s' ask r t' × (t ≡ s)
 
 -- one call of the store that is asked; the other stays
-pub record OneCall (w : WorldState) (ask : StoreAsk) (r : Result StoreReply CallFault) (w' : WorldState) : Type 0 where
-  pub on : calls_on ask.side w ask r w'
-  pub counted : w'.calls ≡ min (w.calls + 1) (2 ^ 64 - 1)
+pub record OneCall (c : Stage) (ask : StoreAsk) (r : Result StoreReply CallFault) (c' : Stage) : Type 0 where
+  pub on : CallsOn ask.side c.old_store c.new_store ask.ask r c'.old_store c'.new_store
+  pub counted : c'.calls ≡ min (c.calls + 1) (2 ^ 64 - 1)
+  pub grew : c.calls ≤ c'.calls
 
 -- no call
-pub record NoCall (w w' : WorldState) : Type 0 where
-  pub old_store : w'.old_store ≡ w.old_store
-  pub new_store : w'.new_store ≡ w.new_store
-  pub calls : w'.calls ≡ w.calls
+pub record NoCall (c c' : Stage) : Type 0 where
+  pub old_store : c'.old_store ≡ c.old_store
+  pub new_store : c'.new_store ≡ c.new_store
+  pub calls : c'.calls ≡ c.calls
 
 -- the store call that the actor asks for was made, and neither store holds anything else than before
-pub record CalledInVain (w : WorldState) (a : Actor) (w' : WorldState) : Type 0 where
+pub record CalledInVain (c : Stage) (a : Actor) (c' : Stage) : Type 0 where
   pub ask : StoreAsk
   pub asks : ActorAsks a ask
   pub answer : Result StoreReply CallFault
-  pub call : OneCall w ask answer w'
-  pub old_same : Onward Same w.old_store.told w'.old_store.told
-  pub new_same : Onward Same w.new_store.told w'.new_store.told
+  pub call : OneCall c ask answer c'
+  pub old_same : Onward Same c.old_store.told c'.old_store.told
+  pub new_same : Onward Same c.new_store.told c'.new_store.told
 
 -- the call that the actor asks for is made and the actor moves as its reply says; a fault ends a client's call
-abbrev pub Moves : WorldState → Actor → Result Progress TurnFault → WorldState → Actor → Type 0
-Moves w a (Ok progress) w' a' = (ask : StoreAsk) × (answer : StoreReply) × ActorAsks a ask × OneCall w ask (Ok answer) w' × ActorMoves a answer progress a'
-Moves w a (Err StoreFault) w' a' = (ask : StoreAsk) × ActorAsks a ask × OneCall w ask (Err call_fault.Failed) w' × (a' ≡ ended a)
-Moves w a (Err HistoryFull) w' a' = NoCall w w' × (a' ≡ ended a)
-Moves w a (Err NoMemory) w' a' = (NoCall w w' ⊎ CalledInVain w a w') × (a' ≡ ended a)
+abbrev pub Moves : Stage → Actor → Result Progress TurnFault → Stage → Actor → Type 0
+Moves c a (Ok progress) c' a' = (ask : StoreAsk) × (answer : StoreReply) × ActorAsks a ask × OneCall c ask (Ok answer) c' × ActorMoves a answer progress a'
+Moves c a (Err StoreFault) c' a' = (ask : StoreAsk) × ActorAsks a ask × OneCall c ask (Err call_fault.Failed) c' × (a' ≡ ended a)
+Moves c a (Err HistoryFull) c' a' = NoCall c c' × (a' ≡ ended a)
+Moves c a (Err NoMemory) c' a' = (NoCall c c' ⊎ CalledInVain c a c') × (a' ≡ ended a)
 
 -- ---- the entry
 
@@ -145,13 +171,52 @@ what_of ops (Err HistoryFull) = None
 what_of ops (Err NoMemory) = None
 
 -- the caller's next entry
-abbrev pub entry_of : WorldState → ℕ → What → Entry
-entry_of w caller w_what = record { caller = caller; number = next_number w.history.entries caller; what = w_what }
+abbrev pub entry_of : List Entry → ℕ → What → Entry
+entry_of entries caller w_what = record { caller = caller; number = next_number entries caller; what = w_what }
 
 -- the entries with this one more, or none
-abbrev pub entries_with : WorldState → ℕ → Option What → List Entry
-entries_with w caller None = w.history.entries
-entries_with w caller (Some w_what) = w.history.entries ++ entry_of w caller w_what ∷ []
+abbrev pub entries_with : List Entry → ℕ → Option What → List Entry
+entries_with entries caller None = entries
+entries_with entries caller (Some w_what) = entries ++ entry_of entries caller w_what ∷ []
+
+-- the history has no room
+abbrev pub is_full : {A : Type 0} → Result A TurnFault → Bool
+is_full (Ok a) = false
+is_full (Err StoreFault) = false
+is_full (Err HistoryFull) = true
+is_full (Err NoMemory) = false
+
+-- the part of a turn that does not depend on what the stores tell
+pub record TakesTurn (c : Stage) (caller : ℕ) (a : Actor) (r : Result Progress TurnFault) (c' : Stage) (a' : Actor) : Type 0 where
+  pub fits : ActorFits a
+  pub full : is_full r ≡ not (has_room c.history (need_of a))
+  pub moves : Moves c a r c' a'
+  pub entries : c'.history.entries ≡ entries_with c.history.entries caller (what_of (asked_by a) r)
+  pub first : c'.history.first ≡ c.history.first
+  pub limit : c'.history.limit ≡ c.history.limit
+
+-- a step of a call gives the call afterwards beside its progress; a fault ends it
+abbrev pub said_by : Result (Progress × ClientCall) TurnFault → Result Progress TurnFault
+said_by (Ok step) = Ok step.0
+said_by (Err fault) = Err fault
+
+abbrev pub left_by : Result (Progress × ClientCall) TurnFault → Actor
+left_by (Ok step) = Client step.1
+left_by (Err fault) = Client client.Ended
+
+-- how a batch call goes on from a reply; for want of memory it takes none
+abbrev pub GoesOn : Call → StoreReply → Result (Progress × ClientCall) TurnFault → Type 0
+GoesOn call answer (Ok step) = BatchMoves call answer step.0 (Client step.1)
+GoesOn call answer (Err NoMemory) = (none : NoMemoryOf) × (to : Place) × Absorbs call.batch call.place answer (Err none) to
+GoesOn call answer (Err StoreFault) = ⊥
+GoesOn call answer (Err HistoryFull) = ⊥
+
+-- a batch call takes a reply, and an answer leaves an entry
+pub record Answered (call : Call) (answer : StoreReply) (h : Kept) (caller : ℕ) (r : Result (Progress × ClientCall) TurnFault) (h' : Kept) : Type 0 where
+  pub goes : GoesOn call answer r
+  pub entries : h'.entries ≡ entries_with h.entries caller (what_of call.batch (said_by r))
+  pub first : h'.first ≡ h.first
+  pub limit : h'.limit ≡ h.limit
 
 -- what a client is told, as a reply of the reference table
 abbrev pub reply_of : Answer → Reply
@@ -188,22 +253,17 @@ pub record IsSameWorld (w w' : WorldState) : Type 0 where
   pub old_faults : w'.old_faults ≡ w.old_faults
   pub new_faults : w'.new_faults ≡ w.new_faults
 
-abbrev pub is_full : {A : Type 0} → Result A TurnFault → Bool
-is_full (Ok a) = false
-is_full (Err StoreFault) = false
-is_full (Err HistoryFull) = true
-is_full (Err NoMemory) = false
-
 -- what a turn of an actor does
 pub record Turns (w : WorldState) (caller : ℕ) (a : Actor) (r : Result Progress TurnFault) (w' : WorldState) (a' : Actor) : Type 0 where
+  pub fits : ActorFits a
   pub same : IsSameWorld w w'
   pub tells : Tells w' → Tells w
   -- full exactly where the history has no room for the need
   pub full : is_full r ≡ not (has_room w.history (need_of a))
   -- at most one store call, and how the actor moves
-  pub moves : Moves w a r w' a'
+  pub moves : Moves (stage_of w) a r (stage_of w') a'
   -- at most one entry, of this caller
-  pub entries : w'.history.entries ≡ entries_with w caller (what_of (asked_by a) r)
+  pub entries : w'.history.entries ≡ entries_with w.history.entries caller (what_of (asked_by a) r)
   pub replies : RepliesAt w (asked_by a) r w'
   pub knows : Knows w' a'
   pub keeps : KeepsApart w (actor_facts a) w' (actor_facts a')
@@ -229,9 +289,20 @@ pub record Answers (w : WorldState) (caller : ℕ) (ops : List Op) (r : Result A
   pub same : IsSameWorld w w'
   pub tells : Tells w' → Tells w
   pub full : is_full r ≡ not (has_room w.history (batch_weight ops))
-  pub entries : w'.history.entries ≡ entries_with w caller (what_of ops (last_turn r))
+  pub entries : w'.history.entries ≡ entries_with w.history.entries caller (what_of ops (last_turn r))
   pub replies : RepliesAt w ops (last_turn r) w'
   pub cause : r ≡ Err StoreFault → EitherRose w w'
   pub old_faults : w.old_store.faults ≤ w'.old_store.faults
   pub new_faults : w.new_store.faults ≤ w'.new_store.faults
   pub calls : w.calls ≤ w'.calls
+
+-- the call is at its beginning
+abbrev pub IsAtBegin : Actor → Type 0
+IsAtBegin (Client (client.Batch call)) = call.place ≡ ReadOld
+IsAtBegin (Client client.Ended) = ⊥
+
+-- turns that end a call; one that begins, while both stores tell, takes two at most: a read and a write
+pub record EndsCall (w : WorldState) (caller : ℕ) (a : Actor) (r : Result Answer TurnFault) (w' : WorldState) : Type 0 where
+  pub more : ℕ
+  pub turns : Finishes more w caller a r w'
+  pub few : IsAtBegin a → Tells w' → more ≤ 1

@@ -2,7 +2,10 @@
 #![tactic(auto)]
 
 mod actor;
+mod log;
 mod opening;
+mod replay;
+mod stage;
 mod world;
 
 pub use actor::{Actor, Answer, ClientCall, Progress, Request, TurnFault};

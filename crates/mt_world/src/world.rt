@@ -1,9 +1,20 @@
 //! The world: two stores, and the history of what happened to their table.
+ghost use Rattle.std.specs.Prelude.{◌≡◌, ◌≤◌, IfOk, IfErr};
+ghost use Rattle.mt_world.specs.Worlds.{IsWorld};
+ghost use Rattle.mt_world.specs.Replays.{CountsRows};
+ghost use Rattle.mt_world.specs.Opening.{Opened, ComesBack};
+ghost use Rattle.mt_world.specs.Turns.{CanStep, Knows, Turns, IsCallOf, EndsCall, Answers, asked_by};
+
+use crate::actor::{Actor, Answer, ClientCall, Progress, Request, TurnFault};
+use crate::log::Log;
+use crate::opening::{NotOpened, check_stores};
+use crate::replay::count_rows;
+use crate::stage::Stage;
+use mt_batch_plan::BatchCall;
 use mt_chain::Keeper;
 use mt_history::History;
-use mt_model::Entities;
+use mt_model::{Entities, NoMemory};
 use std::alloc::Global;
-use std::collections::BTreeMap;
 use std::marker::Model;
 use std::snapshot::Snapshot;
 
@@ -17,14 +28,10 @@ pub struct Stores<K> {
 /// Two stores that answer as one table, and what happened to it since they were opened.
 #[derive(Drop)]
 pub struct World<K: Keeper> {
-    old_store: K,
-    new_store: K,
-    base: Entities,
-    history: History,
+    stage: Stage<K>,
 
-    /// How many entries each caller has, or had.
-    numbers: BTreeMap<u32, u64, Global>,
-    calls: u64,
+    /// The rows of the table at opening.
+    base: Entities,
     generation: u32,
     retired: bool,
 
@@ -43,13 +50,173 @@ impl<K: Keeper> Model for World<K> {
     ghost coded = { Prim.hlevel (codes, filter.the_row.coded) };
 
     ghost view = { λ w. record {
-        old_store = K.state w.old_store;
-        new_store = K.state w.new_store;
-        base = w.base;
-        history = w.history;
-        calls = w.calls;
-        generation = w.generation;
-        retired = w.retired;
-        old_faults = (K.state w.old_opened.value).faults;
-        new_faults = (K.state w.new_opened.value).faults } };
+      old_store = w.stage.old_store;
+      new_store = w.stage.new_store;
+      base = w.base;
+      history = w.stage.history;
+      calls = w.stage.calls;
+      generation = w.generation;
+      retired = w.retired;
+      old_faults = (K.state w.old_opened.value).faults;
+      new_faults = (K.state w.new_opened.value).faults;
+    } };
+
+    ghost invariant = { λ w. IsWorld (record {
+      old_store = w.stage.old_store;
+      new_store = w.stage.new_store;
+      base = w.base;
+      history = w.stage.history;
+      calls = w.stage.calls;
+      generation = w.generation;
+      retired = w.retired;
+      old_faults = (K.state w.old_opened.value).faults;
+      new_faults = (K.state w.new_opened.value).faults;
+    }) };
+}
+
+impl<K: Keeper> World<K> {
+    /// Opens two stores, the one of number 0 as the old one and that of number 1 as the new one, with a
+    /// history that may have so many entries, 1 to 1,048,576.
+    ///
+    /// Each store is asked once for its first partition, store 0 first. A fault of either comes before
+    /// `NotEmpty`, which names the first store that has a row or is sealed. Stores that are not opened
+    /// come back as they are.
+    pub fn open_world(
+        alloc: Global,
+        mut old_store: K,
+        mut new_store: K,
+        entries: u64,
+    ) -> Result<World<K>, NotOpened<K>>
+        requires old { (K.state old_store).number ≡ 0 }
+        requires new { (K.state new_store).number ≡ 1 }
+        requires some { 1 ≤ entries }
+        requires bounded { entries ≤ 1048576 }
+        ensures opened { IfOk result (Opened (K.state old_store) (K.state new_store) entries) }
+        ensures refused { IfErr result (λ e. ComesBack (K.state old_store) (K.state new_store) e.fault (K.state e.old) (K.state e.new)) }
+    {
+        if let Err(fault) = check_stores(alloc, &mut old_store, &mut new_store) {
+            return Err(NotOpened {
+                fault,
+                old: old_store,
+                new: new_store,
+            });
+        }
+        let old_opened = Snapshot::of(&old_store);
+        let new_opened = Snapshot::of(&new_store);
+        Ok(World {
+            stage: Stage {
+                old_store,
+                new_store,
+                log: Log::new(alloc, entries),
+                calls: 0,
+            },
+            base: Entities::of(Vec::new(alloc)),
+            generation: 1,
+            retired: false,
+            old_opened,
+            new_opened,
+        })
+    }
+
+    /// The call of a request, at its beginning. The world stays as it is.
+    pub fn call_of(&mut self, alloc: Global, request: Request) -> Result<ClientCall, NoMemory>
+        ensures same { self.new ≡ self.old }
+        ensures call { IfOk result (IsCallOf request) }
+    {
+        match request {
+            Request::Batch(batch) => Ok(ClientCall::Batch(BatchCall::new(alloc, batch))),
+        }
+    }
+
+    /// One turn of an actor: at most one store call, and then at most one entry. An answer or a fault
+    /// ends a client's call. A batch that was written is answered so: all memory is taken before.
+    ///
+    /// Refused with `HistoryFull` exactly where the history has no room for an entry of the weight of
+    /// the call's batch. The history takes in order what was answered, and that store calls failed.
+    pub fn turn(
+        &mut self,
+        alloc: Global,
+        caller: u32,
+        actor: &mut Actor,
+    ) -> Result<Progress, TurnFault>
+        requires ready { CanStep actor.old }
+        requires knows { Knows self.old actor.old }
+        ensures turns { Turns self.old caller actor.old result self.new actor.new }
+        ensures world { IsWorld self.old }
+    {
+        self.stage.turn(alloc, caller, actor)
+    }
+
+    /// Takes turns until the call ends, with no other caller between them. A call at its beginning
+    /// takes two at most while both stores tell what they hold: one that reads, and one that writes.
+    pub fn finish(
+        &mut self,
+        alloc: Global,
+        caller: u32,
+        call: ClientCall,
+    ) -> Result<Answer, TurnFault>
+        requires ready { CanStep (Actor.Client call) }
+        requires knows { Knows self.old (Actor.Client call) }
+        ensures ends { EndsCall self.old caller (Actor.Client call) result self.new }
+        ensures answers { Answers self.old caller (asked_by (Actor.Client call)) result self.new }
+    {
+        let mut actor = Actor::Client(call);
+        loop {
+            match self.turn(alloc, caller, &mut actor)? {
+                Progress::More => {}
+                Progress::Done(answer) => return Ok(answer),
+            }
+        }
+    }
+
+    /// What happened since the stores were opened, in order.
+    pub fn history(&self) -> &History
+        ensures value { result.now ≡ self.now.history }
+        ensures world { IsWorld self.now }
+    {
+        self.stage.log.history()
+    }
+
+    /// How many times the table was moved to new stores, and 1.
+    pub fn generation(&self) -> u32
+        ensures value { result ≡ self.now.generation }
+        ensures world { IsWorld self.now }
+    {
+        self.generation
+    }
+
+    /// Whether the old store has nothing left.
+    pub fn retired(&self) -> bool
+        ensures value { result ≡ self.now.retired }
+        ensures world { IsWorld self.now }
+    {
+        self.retired
+    }
+
+    /// How many store calls were made since the stores were opened. The count stands still at its end.
+    pub fn calls(&self) -> u64
+        ensures value { result ≡ self.now.calls }
+        ensures world { IsWorld self.now }
+    {
+        self.stage.calls
+    }
+
+    /// How many rows the table has, found by a replay of the history on copies of the rows at opening:
+    /// it takes time and memory for them all. The one error is want of memory.
+    pub fn rows(&self, alloc: Global) -> Result<u64, NoMemory>
+        ensures { IfOk result (CountsRows self.now) }
+    {
+        count_rows(alloc, &self.base, self.stage.entries())
+    }
+
+    /// The stores, as they are.
+    pub fn into_stores(self) -> Stores<K>
+        ensures old { K.state result.old ≡ self.old_store }
+        ensures new { K.state result.new ≡ self.new_store }
+    {
+        Stores {
+            old: self.stage.old_store,
+            new: self.stage.new_store,
+        }
+    }
 }

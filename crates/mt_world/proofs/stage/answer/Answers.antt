@@ -1,0 +1,21 @@
+use Rattle.std.proofs.Common.{rules, sym, ap, subst, ◌∙◌, length, Ok}
+use Rattle.mt_batch_plan.specs.Calls.{Absorbs}
+use Rattle.mt_world.proofs.StageLaws.{written_at_write, answered_written, answered_refused}
+use Rattle.mt_world.proofs.stage.answer.Goals as goal
+
+pub push-requires-clause-tagged : goal.push-requires-clause-tagged
+push-requires-clause-tagged c =
+    ap length c.copy_tags-copy.ensures
+    ∙ (written_at_write c.args.call.batch c.args.call.place c.absorb.new.self.place c.args.reply c.in-Ok-Written.tags
+    (subst (λ s. Absorbs c.args.call.batch c.args.call.place c.args.reply (Ok s) c.absorb.new.self.place) c.in-Ok-Written.field-0-is c.in-Ok-Written.ensures.moves)).1
+    ∙ sym (ap length (c.into_batch.ensures ∙ c.absorb.ensures.batch))
+
+pub returns-in-Ok-Written : goal.returns-in-Ok-Written
+returns-in-Ok-Written c =
+    answered_written c.args.call c.absorb.new.self c.args.reply c.args.log.now.history c.push.new.self.history c.args.caller c.in-Ok-Written.field-0 c.in-Ok-Written.tags c.copy_tags-copy.result c.into_batch.result
+    c.absorb.ensures.batch c.in-Ok-Written.ensures.moves c.in-Ok-Written.field-0-is c.into_batch.ensures c.copy_tags-copy.ensures c.push.ensures
+
+pub returns-in-Ok-Refused : goal.returns-in-Ok-Refused
+returns-in-Ok-Refused c =
+    answered_refused c.args.call c.absorb.new.self c.args.reply c.args.log.now.history c.push-in-Ok-Refused.new.self.history c.args.caller c.in-Ok-Refused.field-0 c.in-Ok-Refused.refusal c.into_batch-in-Ok-Refused.result
+    c.absorb.ensures.batch c.in-Ok-Refused.ensures.moves c.in-Ok-Refused.field-0-is c.into_batch-in-Ok-Refused.ensures c.push-in-Ok-Refused.ensures

@@ -1,0 +1,203 @@
+//! Two stores and the log of what happened to them: what turns change.
+ghost use Rattle.std.specs.Prelude.{◌≡◌, ◌≤◌, [], true, false, IfOk, IfErr, OnOk, All, IsTrue, length, vec_capacity, Result, Ok, Err};
+ghost use Rattle.mt_chain.specs.Asks.{CanAsk, FitsAsk};
+ghost use Rattle.mt_batch_plan.specs.Calls.{Asks, is_write};
+ghost use Rattle.mt_world.specs.Logs.{IsTagged, IsReady};
+ghost use Rattle.mt_world.specs.Turns.{CallsOn, CanStep, TakesTurn, Answered, said_by, left_by};
+ghost use Rattle.mt_chain.specs.Batch.{batch_weight};
+ghost use Rattle.mt_history.specs.Kept.{has_room};
+ghost use Rattle.mt_chain.specs.declared.ask.StoreAsk.{StoreAsk};
+
+use crate::actor::{Actor, Answer, ClientCall, Progress, TurnFault};
+use crate::log::Log;
+use mt_batch_plan::{BatchCall, BatchProgress};
+use mt_chain::{CallFault, Keeper, Side, StoreAsk, StoreReply, Tags};
+use mt_history::{Entry, What};
+use mt_model::{NoMemory, Tag};
+use std::alloc::Global;
+use std::marker::Model;
+use std::mem;
+
+/// Two stores, the log of what happened to them, and how many store calls were made.
+#[derive(Drop)]
+pub struct Stage<K: Keeper> {
+    pub old_store: K,
+    pub new_store: K,
+    pub log: Log,
+
+    /// The count stands still at its end.
+    pub calls: u64,
+}
+
+impl<K: Keeper> Model for Stage<K> {
+    ghost use Rattle.std.specs.Coded.{codes};
+    ghost use Rattle.mt_filter.specs.contracts.filter.Filter as filter;
+    ghost use Rattle.mt_world.specs.Turns.{Stage as State};
+
+    ghost Value = { State };
+
+    ghost coded = { Prim.hlevel (codes, filter.the_row.coded) };
+
+    ghost view = { λ s. record { old_store = K.state s.old_store; new_store = K.state s.new_store; history = s.log.history; calls = s.calls } };
+}
+
+/// Room for a copy of the tags that a batch is answered, where the call is about to write.
+fn room_for_tags(alloc: Global, call: &BatchCall) -> Result<Vec<Tag>, NoMemory>
+    ensures empty { IfOk result (λ v. v.items ≡ []) }
+    ensures room { IfOk result (λ v. is_write call.now.place ≡ true → length call.now.batch ≤ vec_capacity v) }
+{
+    if !call.is_write() {
+        return Ok(Vec::new(alloc));
+    }
+    Ok(Vec::with_capacity(alloc, call.batch().ops().len())?)
+}
+
+/// Tags once more, in room that is there.
+fn copy_tags(tags: &Tags, mut room: Vec<Tag>) -> Tags
+    requires empty { room.items ≡ [] }
+    requires room { length tags.now ≤ vec_capacity room }
+    ensures { result ≡ tags.now }
+{
+    if room.extend_from_slice(tags.as_slice()).is_err() {
+        unreachable!();
+    }
+    Tags::of(room)
+}
+
+/// What a turn has in hand before its store call: the call, and room for a copy of the tags.
+type Prepared = (StoreAsk, Vec<Tag>);
+
+/// Takes all memory that the turn needs after its store call, and asks for that call.
+fn prepare(
+    alloc: Global,
+    log: &mut Log,
+    caller: u32,
+    call: &BatchCall,
+) -> Result<Prepared, NoMemory>
+    ensures same { log.new.history ≡ record log.old.history { spare = log.new.history.spare } }
+    ensures ready { OnOk result (IsReady log.new caller) }
+    ensures asks { IfOk result (λ p. Asks call.now.batch call.now.place p.0) }
+    ensures can { IfOk result (λ p. CanAsk p.0.ask) }
+    ensures empty { IfOk result (λ p. p.1.items ≡ []) }
+    ensures room { IfOk result (λ p. is_write call.now.place ≡ true → length call.now.batch ≤ vec_capacity p.1) }
+{
+    log.reserve(caller)?;
+    let room = room_for_tags(alloc, call)?;
+    let ask = call.next(alloc)?;
+    Ok((ask, room))
+}
+
+/// What a turn of a call comes to: its progress, and the call afterwards.
+type Step = (Progress, ClientCall);
+
+/// Takes a store's reply, and adds the entry of an answer.
+fn answer(
+    alloc: Global,
+    log: &mut Log,
+    caller: u32,
+    mut call: BatchCall,
+    room: Vec<Tag>,
+    reply: StoreReply,
+) -> Result<Step, TurnFault>
+    requires fits { (a : StoreAsk) × Asks call.batch call.place a × FitsAsk a.ask reply }
+    requires ready { IsReady log.old caller }
+    requires light { IsTrue (has_room log.old.history (batch_weight call.batch)) }
+    requires empty { room.items ≡ [] }
+    requires room { is_write call.place ≡ true → length call.batch ≤ vec_capacity room }
+    ensures { Answered call reply log.old.history caller result log.new.history }
+{
+    match call.absorb(alloc, reply) {
+        Err(_) => Err(TurnFault::NoMemory),
+        Ok(BatchProgress::More) => Ok((Progress::More, ClientCall::Batch(call))),
+        Ok(BatchProgress::Written(tags)) => {
+            let copy = copy_tags(&tags, room);
+            log.push(
+                caller,
+                What::Batch {
+                    batch: call.into_batch(),
+                    tags: copy,
+                },
+            );
+            Ok((Progress::Done(Answer::Written(tags)), ClientCall::Ended))
+        }
+        Ok(BatchProgress::Refused(refusal)) => {
+            log.push(
+                caller,
+                What::Refused {
+                    batch: call.into_batch(),
+                },
+            );
+            Ok((Progress::Done(Answer::Refused(refusal)), ClientCall::Ended))
+        }
+    }
+}
+
+/// Makes the call of the store that is asked.
+fn call_store<K: Keeper>(
+    alloc: Global,
+    old_store: &mut K,
+    new_store: &mut K,
+    ask: &StoreAsk,
+) -> Result<StoreReply, CallFault>
+    requires { CanAsk ask.now.ask }
+    ensures { CallsOn ask.now.side (K.state old_store.old) (K.state new_store.old) ask.now.ask result (K.state old_store.new) (K.state new_store.new) }
+{
+    match ask.side {
+        Side::Old => ask.ask.call(alloc, old_store),
+        Side::New => ask.ask.call(alloc, new_store),
+    }
+}
+
+impl<K: Keeper> Stage<K> {
+    /// The entries of the log, in order. Each that tells of an applied batch has a tag for each
+    /// operation.
+    pub fn entries(&self) -> &[Entry]
+        ensures value { result.now ≡ self.now.history.entries }
+        ensures tagged { All (λ e. IsTagged e.what) self.now.history.entries }
+    {
+        self.log.entries()
+    }
+
+    /// One turn of a batch call: at most one store call, and then at most one entry.
+    fn batch_turn(&mut self, alloc: Global, caller: u32, call: BatchCall) -> Result<Step, TurnFault>
+        ensures { TakesTurn self.old caller (Actor.Client (ClientCall.Batch call)) (said_by result) self.new (left_by result) }
+    {
+        if !self.log.history().room_for(call.batch().weight()) {
+            return Err(TurnFault::HistoryFull);
+        }
+        let Ok((ask, room)) = prepare(alloc, &mut self.log, caller, &call) else {
+            return Err(TurnFault::NoMemory);
+        };
+        self.calls = self.calls.saturating_add(1);
+        match call_store(alloc, &mut self.old_store, &mut self.new_store, &ask) {
+            Ok(reply) => answer(alloc, &mut self.log, caller, call, room, reply),
+            Err(CallFault::NoMemory) => Err(TurnFault::NoMemory),
+            Err(CallFault::Failed) => {
+                self.log.push(caller, What::Fault);
+                Err(TurnFault::StoreFault)
+            }
+        }
+    }
+
+    /// One turn of an actor: at most one store call, and then at most one entry. An answer or a fault
+    /// ends a client's call.
+    pub fn turn(
+        &mut self,
+        alloc: Global,
+        caller: u32,
+        actor: &mut Actor,
+    ) -> Result<Progress, TurnFault>
+        requires { CanStep actor.old }
+        ensures { TakesTurn self.old caller actor.old result self.new actor.new }
+    {
+        let Actor::Client(slot) = actor;
+        match mem::replace(slot, ClientCall::Ended) {
+            ClientCall::Batch(call) => {
+                let (progress, after) = self.batch_turn(alloc, caller, call)?;
+                *slot = after;
+                Ok(progress)
+            }
+            ClientCall::Ended => unreachable!(),
+        }
+    }
+}
