@@ -309,20 +309,20 @@ fn is_given(tag: Tag, counter: u64) -> bool
 
 /// Store 0 with two rows.
 fn begun(
+    alloc: Global,
     first: Row,
     second: Row,
     counter: u64,
     failing: Vec<u64>,
-    mut rows: Vec<Row>,
 ) -> Result<MemKeeper, Fail>
-    requires rows { rows.items ≡ [] }
-    requires bounded { counter ≤ 2 ^ 62 }
+    requires { counter ≤ 2 ^ 62 }
 {
     let (a, b) = (first.1.tag, second.1.tag);
     let rise = compare(&first, &second.0, &second.1.rk).is_lt();
     if !rise || !is_given(a, counter) || !is_given(b, counter) || a.n == b.n {
         return Err(Fail::new("no rows of a store"));
     }
+    let mut rows = Vec::new(alloc);
     rows.push(first)?;
     rows.push(second)?;
     Ok(MemKeeper::with_rows(0, rows, counter, false, failing))
@@ -334,7 +334,7 @@ fn small_store(alloc: Global) -> Result<MemKeeper, Fail> {
     let first = row(alloc, 'p', 'm', 5, 3)?;
     let second = row(alloc, 'q', 'r', 6, 2)?;
     let failing = Vec::from_slice(alloc, &[3, 5])?;
-    begun(first, second, 4, failing, Vec::new(alloc))
+    begun(alloc, first, second, 4, failing)
 }
 
 /// The first answer that is not the one wanted.

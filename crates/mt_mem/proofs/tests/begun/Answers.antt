@@ -22,7 +22,7 @@ two_rows counter a b less given also ne = record {
 
 pub with_rows-requires-clause-rows : goal.with_rows-requires-clause-rows
 with_rows-requires-clause-rows c =
-    let rows : c.push-2.new.self.items ≡ c.args.first ∷ c.args.second ∷ [] = c.in_ok-push-2.ensures.items ∙ ap (λ rs. rs ++ c.args.second ∷ []) (c.in_ok-push.ensures.items ∙ ap (λ rs. rs ++ c.args.first ∷ []) c.requires.rows) in
+    let rows : c.push-2.new.self.items ≡ c.args.first ∷ c.args.second ∷ [] = c.in_ok-push-2.ensures.items ∙ ap (λ rs. rs ++ c.args.second ∷ []) (c.in_ok-push.ensures.items ∙ ap (λ rs. rs ++ c.args.first ∷ []) c.new-rows.ensures.items) in
     subst (λ rs. AreRows 0 c.args.counter (entries rs)) (sym rows)
     (two_rows c.args.counter c.args.first c.args.second
     (sym (ap is_lt c.compare.ensures) ∙ sym c.is_lt-rise.ensures ∙ c.if-not-rise.false)
