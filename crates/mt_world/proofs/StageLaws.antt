@@ -1,7 +1,8 @@
 -- What a batch call makes of a reply, and the entry of its answer.
-use Rattle.std.proofs.Common.{◌≡◌, ◌∙◌, ℕ, suc, ◌+◌, ◌-◌, ◌≤◌, ◌<◌, ◌^◌, Bool, true, false, cond, ◌&&◌, List, [], ◌∷◌, ◌++◌, length, nat_lt, refl, sym, ap, subst, arith, IsTrue, Option, Some, None, Result, Ok, Err}
-use Rattle.std.specs.Prelude.{nat_le}
+use Rattle.std.proofs.Common.{◌≡◌, ◌∙◌, ℕ, suc, ◌+◌, ◌-◌, ◌≤◌, ◌<◌, ◌^◌, Bool, true, false, cond, ◌&&◌, List, [], ◌∷◌, ◌++◌, length, nat_lt, refl, sym, ap, subst, inr, arith, IsTrue, Option, Some, None, Result, Ok, Err}
+use Rattle.std.specs.Prelude.{nat_le, min, not}
 use Rattle.std.proofs.lemmas.Bool.Decides.{nat_tests}
+use Rattle.mt_model.specs.declared.text.NoMemory.{NoMemory as NoMemoryOf}
 use Rattle.mt_model.specs.declared.tag.Tag.{Tag}
 use Rattle.mt_chain.specs.declared.op.Op.{Op}
 use Rattle.mt_chain.specs.declared.op.Refusal.{Refusal}
@@ -9,6 +10,17 @@ use Rattle.mt_chain.specs.declared.row.StoredRow.{StoredRow}
 use Rattle.mt_chain.specs.declared.query.Found.{Found}
 use Rattle.mt_chain.specs.declared.ask.StoreReply.{StoreReply}
 use Rattle.mt_chain.specs.declared.ask.StoreReply.TheVariants as reply
+use Rattle.mt_chain.specs.declared.ask.Side.{Side}
+use Rattle.mt_chain.specs.declared.ask.Side.TheVariants.{Old, New}
+use Rattle.mt_chain.specs.declared.ask.Ask.TheVariants as ask
+use Rattle.mt_chain.specs.declared.ask.StoreAsk.{StoreAsk}
+use Rattle.mt_chain.specs.declared.ask.CallFault.{CallFault}
+use Rattle.mt_chain.specs.declared.ask.CallFault.TheVariants as call_fault
+use Rattle.mt_chain.specs.declared.query.RangeQuery.{RangeQuery}
+use Rattle.mt_chain.specs.StoreCall.{Contents}
+use Rattle.mt_chain.specs.Store.{Onward, Same}
+use Rattle.mt_chain.specs.Asks.{Means}
+use Rattle.mt_rules.specs.Batches.{partition_of}
 use Rattle.mt_chain.specs.Table.{Table}
 use Rattle.mt_chain.specs.Batch.{batch_weight, batch_size, tags_answered, refusal_of}
 use Rattle.mt_history.specs.declared.entry.What.TheVariants as what
@@ -22,13 +34,18 @@ use Rattle.mt_batch_plan.specs.declared.place.Place.{Place}
 use Rattle.mt_batch_plan.specs.declared.place.Place.TheVariants.{ReadOld, WriteOld, BirthOld}
 use Rattle.mt_batch_plan.specs.declared.call.BatchProgress.{BatchProgress}
 use Rattle.mt_batch_plan.specs.declared.call.BatchProgress.TheVariants as batch
-use Rattle.mt_batch_plan.specs.Calls.{Call, Absorbs, Writes, AnswersTags, saw, saw_old, marker_says, decide, decided, table_seen, is_write}
+use Rattle.mt_batch_plan.specs.Calls.{Call, CallFits, Asks, reads_old, Absorbs, Writes, AnswersTags, saw, saw_old, marker_says, decide, decided, table_seen, is_write}
+use Rattle.mt_world.specs.declared.actor.ClientCall.{ClientCall}
 use Rattle.mt_world.specs.declared.actor.ClientCall.TheVariants as client
 use Rattle.mt_world.specs.declared.actor.Actor.TheVariants.{Client}
 use Rattle.mt_world.specs.declared.actor.Answer.TheVariants.{Written, Refused}
+use Rattle.mt_world.specs.declared.actor.Progress.{Progress}
 use Rattle.mt_world.specs.declared.actor.Progress.TheVariants.{More, Done}
+use Rattle.mt_world.specs.declared.actor.TurnFault.{TurnFault}
+use Rattle.mt_world.specs.declared.actor.TurnFault.TheVariants.{StoreFault, HistoryFull, NoMemory}
 use Rattle.mt_world.specs.Worlds.{next_number}
-use Rattle.mt_world.specs.Turns.{Answered, entry_of, progress_of, batch_after}
+use Rattle.mt_world.specs.Turns.{Stage, CallsOn, OneCall, CalledInVain, Moves, Answered, GoesOn, TakesTurn, entry_of, entries_with, what_of, is_full, said_by, left_by, progress_of, batch_after}
+use Rattle.mt_world.proofs.PairLaws.{stays_same}
 
 -- ---- tags come only of writes, one for each operation
 
@@ -115,4 +132,102 @@ answered_refused call to r h h' caller said refusal ops same moves is whole afte
   entries = ap (λ k. k.entries) after ∙ ap (λ b. h.entries ++ entry_of h.entries caller (what.Refused b) ∷ []) (whole ∙ same);
   first = ap (λ k. k.first) after;
   limit = ap (λ k. k.limit) after;
+}
+
+-- ---- turns
+
+-- the call was made, and the history has another number of entries in hand, or one entry more
+pub record WasCalled (c c' : Stage) (call : Call) (ask : StoreAsk) (r : Result StoreReply CallFault) (h : Kept) : Type 0 where
+  pub fits : CallFits call
+  pub room : has_room c.history (batch_weight call.batch) ≡ true
+  pub same : h ≡ record c.history { spare = h.spare }
+  pub asks : Asks call.batch call.place ask
+  pub one : OneCall c ask r c'
+
+pub has_room_at : (h k : Kept) (n weight : ℕ) (room : Bool) → room ≡ true → room ≡ has_room h n → h ≡ k → n ≡ weight → has_room k weight ≡ true
+has_room_at h k n weight room some is same sized = sym (ap (λ x. has_room x n) same ∙ ap (has_room k) sized) ∙ sym is ∙ some
+
+pub was_called : (c c' : Stage) (call : Call) (ask : StoreAsk) (r : Result StoreReply CallFault) (h : Kept) → CallFits call → has_room c.history (batch_weight call.batch) ≡ true → h ≡ record c.history { spare = h.spare } → Asks call.batch call.place ask
+    → CallsOn ask.side c.old_store c.new_store ask.ask r c'.old_store c'.new_store → c.calls < 2 ^ 64 → c'.calls ≡ min (c.calls + 1) (2 ^ 64 - 1) → WasCalled c c' call ask r h
+was_called c c' call ask r h fits room same asks on small calls = record { fits = fits; room = room; same = same; asks = asks; one = record { on = on; counted = calls; grew = omega (arith, small, calls) } }
+
+same_read : (q : RangeQuery) (found : Found) (n : ℕ) (s t : Option Contents) → Onward (Means n (ask.Query q) (reply.Found found)) s t → Onward Same s t
+same_read q found n s None h = tt
+same_read q found n None (Some b) h = absurd h
+same_read q found n (Some a) (Some b) h = h.0
+
+-- a read changed nothing
+read_in_vain : (c c' : Stage) (call : Call) (ask : StoreAsk) (names : List (List ℕ)) (found : Found) → Asks call.batch call.place ask → ask ≡ reads_old (partition_of call.batch) names → OneCall c ask (Ok (reply.Found found)) c' → CalledInVain c (Client (client.Batch call)) c'
+read_in_vain c c' call ask names found asks is one =
+    let on = subst (λ a. CallsOn a.side c.old_store c.new_store a.ask (Ok (reply.Found found)) c'.old_store c'.new_store) is one.on in
+    record {
+      ask = ask;
+      asks = asks;
+      answer = Ok (reply.Found found);
+      call = one;
+      old_same = same_read _ found c.old_store.number c.old_store.told c'.old_store.told on.0.shows.2;
+      new_same = stays_same c.new_store c'.new_store on.1;
+    }
+
+-- want of memory comes only of a read
+in_vain : (c c' : Stage) (call : Call) (place : Place) (ask : StoreAsk) (answer : StoreReply) (none : NoMemoryOf) (to : Place) → call.place ≡ place → Asks call.batch place ask → OneCall c ask (Ok answer) c' → Absorbs call.batch place answer (Err none) to → CalledInVain c (Client (client.Batch call)) c'
+in_vain c c' call ReadOld ask (reply.Found found) none to is asks one h = read_in_vain c c' call ask asks.0 found (subst (λ p. Asks call.batch p ask) (sym is) asks) asks.2 one
+in_vain c c' call ReadOld ask (reply.Applied given) none to is asks one h = absurd h
+in_vain c c' call ReadOld ask (reply.Next next) none to is asks one h = absurd h
+in_vain c c' call ReadOld ask reply.SealDone none to is asks one h = absurd h
+in_vain c c' call ReadOld ask (reply.Unmet i) none to is asks one h = absurd h
+in_vain c c' call ReadOld ask reply.SealedOff none to is asks one h = absurd h
+in_vain c c' call (WriteOld rows) ask (reply.Found found) none to is asks one h = absurd h
+in_vain c c' call (WriteOld rows) ask (reply.Applied given) none to is asks one h = absurd h
+in_vain c c' call (WriteOld rows) ask (reply.Next next) none to is asks one h = absurd h
+in_vain c c' call (WriteOld rows) ask reply.SealDone none to is asks one h = absurd h
+in_vain c c' call (WriteOld rows) ask (reply.Unmet i) none to is asks one h = absurd h
+in_vain c c' call (WriteOld rows) ask reply.SealedOff none to is asks one h = absurd h
+in_vain c c' call BirthOld ask (reply.Found found) none to is asks one h = absurd h
+in_vain c c' call BirthOld ask (reply.Applied given) none to is asks one h = absurd h
+in_vain c c' call BirthOld ask (reply.Next next) none to is asks one h = absurd h
+in_vain c c' call BirthOld ask reply.SealDone none to is asks one h = absurd h
+in_vain c c' call BirthOld ask (reply.Unmet i) none to is asks one h = absurd h
+in_vain c c' call BirthOld ask reply.SealedOff none to is asks one h = absurd h
+
+-- how the actor moves with a reply
+answer_moves : (c c' : Stage) (call : Call) (ask : StoreAsk) (answer : StoreReply) (r : Result (Progress × ClientCall) TurnFault) → Asks call.batch call.place ask → OneCall c ask (Ok answer) c' → GoesOn call answer r → Moves c (Client (client.Batch call)) (said_by r) c' (left_by r)
+answer_moves c c' call ask answer (Ok step) asks one goes = (ask, answer, asks, one, goes)
+answer_moves c c' call ask answer (Err NoMemory) asks one goes = (inr (in_vain c c' call call.place ask answer goes.0 goes.1 refl asks one goes.2), refl)
+answer_moves c c' call ask answer (Err StoreFault) asks one goes = absurd goes
+answer_moves c c' call ask answer (Err HistoryFull) asks one goes = absurd goes
+
+answer_is_not_full : (call : Call) (answer : StoreReply) (r : Result (Progress × ClientCall) TurnFault) → GoesOn call answer r → is_full (said_by r) ≡ false
+answer_is_not_full call answer (Ok step) goes = refl
+answer_is_not_full call answer (Err NoMemory) goes = refl
+answer_is_not_full call answer (Err StoreFault) goes = absurd goes
+answer_is_not_full call answer (Err HistoryFull) goes = absurd goes
+
+-- the turn of a call that the store answered
+pub answered_takes : (c c' : Stage) (caller : ℕ) (call : Call) (ask : StoreAsk) (answer : StoreReply) (h : Kept) (r : Result (Progress × ClientCall) TurnFault) → WasCalled c c' call ask (Ok answer) h
+    → Answered call answer h caller r c'.history → TakesTurn c caller (Client (client.Batch call)) (said_by r) c' (left_by r)
+answered_takes c c' caller call ask answer h r was after = record {
+  fits = was.fits;
+  full = answer_is_not_full call answer r after.goes ∙ sym (ap not was.room);
+  moves = answer_moves c c' call ask answer r was.asks was.one after.goes;
+  entries = after.entries ∙ ap (λ k. entries_with k.entries caller (what_of call.batch (said_by r))) was.same;
+  first = after.first ∙ ap (λ k. k.first) was.same;
+  limit = after.limit ∙ ap (λ k. k.limit) was.same;
+}
+
+quiet_call : (c c' : Stage) (call : Call) (ask : StoreAsk) → Asks call.batch call.place ask → OneCall c ask (Err call_fault.NoMemory) c' → CalledInVain c (Client (client.Batch call)) c'
+quiet_call c c' call ask asks one = by ask.side one.on where
+  by : (side : Side) → CallsOn side c.old_store c.new_store ask.ask (Err call_fault.NoMemory) c'.old_store c'.new_store → CalledInVain c (Client (client.Batch call)) c'
+  by Old on = record { ask = ask; asks = asks; answer = Err call_fault.NoMemory; call = one; old_same = on.0.shows; new_same = stays_same c.new_store c'.new_store on.1 }
+  by New on = record { ask = ask; asks = asks; answer = Err call_fault.NoMemory; call = one; old_same = stays_same c.old_store c'.old_store on.1; new_same = on.0.shows }
+
+-- the turn of a call for which the store had no memory
+pub unanswered_takes : (c c' : Stage) (caller : ℕ) (call : Call) (ask : StoreAsk) (h : Kept) → WasCalled c c' call ask (Err call_fault.NoMemory) h → c'.history ≡ h → TakesTurn c caller (Client (client.Batch call)) (Err NoMemory) c' (Client client.Ended)
+unanswered_takes c c' caller call ask h was after = record {
+  fits = was.fits;
+  full = sym (ap not was.room);
+  moves = (inr (quiet_call c c' call ask was.asks was.one), refl);
+  entries = ap (λ k. k.entries) (after ∙ was.same);
+  first = ap (λ k. k.first) (after ∙ was.same);
+  limit = ap (λ k. k.limit) (after ∙ was.same);
 }

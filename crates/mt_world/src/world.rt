@@ -118,10 +118,12 @@ impl<K: Keeper> World<K> {
         })
     }
 
-    /// The call of a request, at its beginning. The world stays as it is.
+    /// The call of a request, at its beginning, which knows nothing yet. The world stays as it is.
     pub fn call_of(&mut self, alloc: Global, request: Request) -> Result<ClientCall, NoMemory>
         ensures same { self.new ≡ self.old }
         ensures call { IfOk result (IsCallOf request) }
+        ensures ready { IfOk result (λ c. CanStep (Actor.Client c)) }
+        ensures knows { IfOk result (λ c. Knows self.new (Actor.Client c)) }
     {
         match request {
             Request::Batch(batch) => Ok(ClientCall::Batch(BatchCall::new(alloc, batch))),

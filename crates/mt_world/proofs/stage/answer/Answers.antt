@@ -1,7 +1,15 @@
-use Rattle.std.proofs.Common.{rules, sym, ap, subst, ◌∙◌, length, Ok}
+use Rattle.std.proofs.Common.{arith, rules, sym, ap, subst, ◌∙◌, length, Ok}
 use Rattle.mt_batch_plan.specs.Calls.{Absorbs}
 use Rattle.mt_world.proofs.StageLaws.{written_at_write, answered_written, answered_refused}
 use Rattle.mt_world.proofs.stage.answer.Goals as goal
+
+pub copy_tags-copy-requires-clause-room : goal.copy_tags-copy-requires-clause-room
+copy_tags-copy-requires-clause-room c =
+    let h = written_at_write c.args.call.batch c.args.call.place c.absorb.new.self.place c.args.reply c.in-Ok-Written.tags
+    (subst (λ s. Absorbs c.args.call.batch c.args.call.place c.args.reply (Ok s) c.absorb.new.self.place) c.in-Ok-Written.field-0-is c.in-Ok-Written.ensures.moves) in
+    let each = h.1 in
+    let room = c.requires.room h.0 in
+    omega (arith, each, room)
 
 pub push-requires-clause-tagged : goal.push-requires-clause-tagged
 push-requires-clause-tagged c =
