@@ -124,6 +124,11 @@ fn shortly(asked: &Asked) -> Got {
     }
 }
 
+fn asked_shortly(alloc: Global, head: Head, content: Content) -> Result<Got, Fail> {
+    let asked = asked(alloc, head, content)?;
+    Ok(shortly(&asked))
+}
+
 #[test]
 fn reads_inserts(rt: HostRuntime) -> Result<(), Fail> {
     let alloc = rt.alloc();
@@ -176,7 +181,7 @@ fn reads_inserts(rt: HostRuntime) -> Result<(), Fail> {
             if_match,
             no_content,
         };
-        let got = shortly(&asked(alloc, head, content)?);
+        let got = asked_shortly(alloc, head, content)?;
         assert!(rt; got == want, "{got:?}");
     }
     Ok(())
@@ -220,7 +225,7 @@ fn reads_conditions(rt: HostRuntime) -> Result<(), Fail> {
             if_match,
             no_content: false,
         };
-        let got = shortly(&asked(alloc, head, Content::OtherKeys)?);
+        let got = asked_shortly(alloc, head, Content::OtherKeys)?;
         assert!(rt; got == want, "{got:?}");
     }
     Ok(())
@@ -281,7 +286,7 @@ fn refuses_in_order(rt: HostRuntime) -> Result<(), Fail> {
             if_match,
             no_content: true,
         };
-        let got = shortly(&asked(alloc, head, Content::NoJson)?);
+        let got = asked_shortly(alloc, head, Content::NoJson)?;
         assert!(rt; got == want, "{got:?}");
     }
     Ok(())

@@ -9,6 +9,9 @@ use mt_model::{Key, Name, Prop, Props, Tag, Text, Value};
 use std::alloc::Global;
 use std::test::Fail;
 
+/// The tag of the first row of a new table.
+const TAG: Tag = Tag { store: 0, n: 2 };
+
 /// What was done to a row that need not be new.
 #[derive(Clone, Copy)]
 enum Change {
@@ -41,12 +44,12 @@ fn props(alloc: Global) -> Result<Props, Fail> {
     Ok(Props::build(alloc, list)?)
 }
 
-/// The reply, where the row has the tag 0.2.
-fn told(alloc: Global, op: &Op, echo: Echo) -> Result<Vec<u8>, Fail>
+/// The reply, where the row has this tag.
+fn told(alloc: Global, op: &Op, echo: Echo, tag: Tag) -> Result<Vec<u8>, Fail>
     requires { HasEcho echo op.now }
 {
     let prepared = prepare(alloc, op, echo)?;
-    Ok(done(prepared, Tag { store: 0, n: 2 }))
+    Ok(done(prepared, tag))
 }
 
 fn insert(alloc: Global) -> Result<Op, Fail>
@@ -86,8 +89,8 @@ const GONE: &str = "HTTP/1.1 204 No Content\r\n\r\n";
 fn told_insert(alloc: Global, shown: Shown) -> Result<Vec<u8>, Fail> {
     let op = insert(alloc)?;
     match shown {
-        Shown::Entity => told(alloc, &op, Echo::Entity),
-        Shown::NoContent => told(alloc, &op, Echo::NoContent),
+        Shown::Entity => told(alloc, &op, Echo::Entity, TAG),
+        Shown::NoContent => told(alloc, &op, Echo::NoContent, TAG),
     }
 }
 
@@ -101,6 +104,12 @@ fn tells_of_an_insert(rt: HostRuntime) -> Result<(), Fail> {
     Ok(())
 }
 
+/// The reply to a change of a row that has this tag.
+fn told_change(alloc: Global, what: Change, tag: Tag) -> Result<Vec<u8>, Fail> {
+    let op = changing(key(alloc)?, props(alloc)?, what);
+    told(alloc, &op, Echo::Plain, tag)
+}
+
 #[test]
 fn tells_of_a_change(rt: HostRuntime) -> Result<(), Fail> {
     let alloc = rt.alloc();
@@ -111,18 +120,10 @@ fn tells_of_a_change(rt: HostRuntime) -> Result<(), Fail> {
         (Change::InsertOrReplace, TAGGED),
         (Change::InsertOrMerge, TAGGED),
     ] {
-        let op = changing(key(alloc)?, props(alloc)?, what);
-        let got = told(alloc, &op, Echo::Plain)?;
+        let got = told_change(alloc, what, TAG)?;
         assert!(rt; got.as_slice() == want.as_bytes(), "{got:?}");
     }
     Ok(())
-}
-
-/// The reply to a replaced row with this tag.
-fn tagged(alloc: Global, tag: Tag) -> Result<Vec<u8>, Fail> {
-    let op = changing(key(alloc)?, props(alloc)?, Change::Replace);
-    let prepared = prepare(alloc, &op, Echo::Plain)?;
-    Ok(done(prepared, tag))
 }
 
 #[test]
@@ -141,7 +142,7 @@ fn has_room_for_every_tag(rt: HostRuntime) -> Result<(), Fail> {
             "HTTP/1.1 204 No Content\r\nETag: W/\"4294967295.18446744073709551615\"\r\n\r\n",
         ),
     ] {
-        let got = tagged(alloc, tag)?;
+        let got = told_change(alloc, Change::Replace, tag)?;
         assert!(rt; got.as_slice() == want.as_bytes(), "{got:?}");
     }
     Ok(())
