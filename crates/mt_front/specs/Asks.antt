@@ -1,9 +1,10 @@
 -- What a plain request asks for: an operation on one row, or a refusal.
-use Rattle.std.specs.Prelude.{◌≡◌, ℕ, Bool, true, false, List, Option, Some, None, Result, Ok, Err}
+use Rattle.std.specs.Prelude.{◌≡◌, ℕ, ◌≤◌, Bool, true, false, List, Option, Some, None, Result, Ok, Err}
 use Rattle.mt_model.specs.declared.key.Key.{Key}
 use Rattle.mt_model.specs.declared.key.KeyFault.{KeyFault}
 use Rattle.mt_model.specs.declared.value.Prop.{Prop}
 use Rattle.mt_model.specs.Key.{key_fault}
+use Rattle.mt_model.specs.Props.{visible_size}
 use Rattle.mt_json.specs.declared.read.Body.{Body}
 use Rattle.mt_json.specs.declared.read.JsonFault.{JsonFault}
 use Rattle.mt_json.specs.declared.read.KeyUse.TheVariants.{InBody, InTarget}
@@ -12,7 +13,9 @@ use Rattle.mt_chain.specs.declared.op.Cond.{Cond}
 use Rattle.mt_chain.specs.declared.op.Cond.TheVariants as cond
 use Rattle.mt_chain.specs.declared.op.Op.{Op}
 use Rattle.mt_chain.specs.declared.op.Op.TheVariants as op
+use Rattle.mt_chain.specs.Effect.{op_props}
 use Rattle.mt_chain.specs.Rows.{key_at}
+use Rattle.mt_rules.specs.Batches.{MayAsk}
 use Rattle.mt_plain.specs.declared.request.Action.{Action}
 use Rattle.mt_plain.specs.declared.request.Action.TheVariants.{Put, Merge, Delete}
 use Rattle.mt_plain.specs.declared.request.Route.{Route}
@@ -27,6 +30,7 @@ use Rattle.mt_front.specs.declared.asks.Asked.TheVariants.{Write, Refused}
 use Rattle.mt_front.specs.declared.asks.Echo.{Echo}
 use Rattle.mt_front.specs.declared.asks.Echo.TheVariants as echo
 use Rattle.mt_front.specs.Refusals.{key_refusal, body_refusal}
+use Rattle.mt_front.specs.Replies.{HasEcho}
 
 -- this refusal and nothing else; where there is none to tell, it cannot be
 abbrev pub IsRefused : Option BadRequest → Asked → Type 0
@@ -113,3 +117,8 @@ AsksOn (route.Entity action pk rk) m no_content bytes asked =
 
 abbrev pub Asks : PlainRequest → Asked → Type 0
 Asks p asked = AsksOn p.route p.if_match p.no_content p.body asked
+
+-- the operation keeps the rules of a batch, the reply can show of it what is asked, and its properties have at most 1 MiB
+abbrev pub CanTry : Asked → Type 0
+CanTry (Write op echo) = MayAsk op × HasEcho echo op × (visible_size (op_props op) ≤ 1048576)
+CanTry (Refused r) = Unit {0}

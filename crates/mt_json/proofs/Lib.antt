@@ -15,3 +15,4 @@ pub mod ReadBackMembers
 pub mod ReadBackProps
 pub mod ReadBackOrder
 pub mod ReadBackLaws
+pub mod VisibleLaws

@@ -77,7 +77,7 @@ no_at = is_xid_continue-ascii 64 (omega arith)
 no_dot : is_xid_continue 46 ≡ false
 no_dot = is_xid_continue-ascii 46 (omega arith)
 
-false_unless : (b : Bool) → (b ≡ true → ⊥) → b ≡ false
+pub false_unless : (b : Bool) → (b ≡ true → ⊥) → b ≡ false
 false_unless true h = absurd (h refl)
 false_unless false h = refl
 

@@ -2,6 +2,8 @@
 ghost use Rattle.std.specs.Prelude.{◌≡◌, ◌⊎◌, false, Ok, Err, IfOk, IfErr, OnOk, ◌++◌, ◌∷◌, []};
 ghost use Rattle.serde_json.specs.View.{view, members_view};
 ghost use Rattle.mt_json.specs.Body.{Reads, HasNoReading, key_name, key_text, missing_part, missing_key, AllGive, Builds, GivesBody, ReadsAs, is_repeat};
+ghost use Rattle.std.specs.List.{list_any};
+ghost use Rattle.mt_model.specs.Name.{is_hidden};
 ghost use Rattle.mt_model.specs.Props.{RisingNames};
 ghost use Rattle.mt_json.specs.declared.read.JsonFault.TheVariants as fault;
 
@@ -222,6 +224,8 @@ pub fn read_entity(alloc: Global, bytes: &[u8], keys: KeyUse) -> Result<Body, Js
     ensures read { ReadsAs keys bytes.now result ⊎ (result ≡ Err fault.NoMemory) }
     // the names of an object's members are distinct
     ensures distinct { IfErr result (λ f. is_repeat f ≡ false) }
+    // no client can name a hidden property
+    ensures visible { IfOk result (λ b. list_any (λ p. is_hidden p.name) b.props ≡ false) }
 {
     let object = parse(alloc, bytes)?;
     read_object(alloc, &object, keys)

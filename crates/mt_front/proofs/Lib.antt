@@ -1,0 +1,4 @@
+mod AskLaws
+mod BodyKeyLaws
+mod RefusalLaws
+mod ReplyLaws
