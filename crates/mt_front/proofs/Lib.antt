@@ -1,4 +1,8 @@
 mod AskLaws
 mod BodyKeyLaws
+mod CallLaws
+mod CameLaws
+pub mod FitLaws
 mod RefusalLaws
 mod ReplyLaws
+mod TalkLaws

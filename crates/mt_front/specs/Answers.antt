@@ -2,7 +2,6 @@
 use Rattle.std.specs.Prelude.{◌≡◌, ◌≢◌, ℕ, ◌+◌, ◌-◌, ◌≤◌, Bool, true, false, not, All, List, [], ◌∷◌, ◌++◌, take, drop, length, filter, Option, Some, None}
 use Rattle.mt_model.specs.declared.tag.Tag.{Tag}
 use Rattle.mt_chain.specs.declared.op.Cause.{Cause}
-use Rattle.mt_chain.specs.declared.op.Op.{Op}
 use Rattle.mt_chain.specs.Table.{Table}
 use Rattle.mt_chain.specs.Batch.{refusal_of, refusal_at, batch_weight}
 use Rattle.mt_history.specs.declared.entry.What.{What}

@@ -3,3 +3,4 @@ pub mod Asks
 pub mod Replies
 pub mod Answers
 pub mod Session
+pub mod Turns

@@ -1,5 +1,5 @@
 -- One connection over a world, of caller 0: its requests, their replies, and what the world is afterwards.
-use Rattle.std.specs.Prelude.{◌≡◌, ◌⊎◌, ℕ, ◌+◌, ◌-◌, ◌^◌, ◌≤◌, All, List, [], ◌++◌, length, Option, Result, Ok, Err, IfSome}
+use Rattle.std.specs.Prelude.{◌≡◌, ◌⊎◌, ℕ, ◌+◌, ◌-◌, ◌^◌, ◌≤◌, true, is_some, All, List, [], ◌++◌, length, Option, Result, Ok, Err, IfSome}
 use Rattle.mt_io.specs.Ends.{Input, Output, Rose, before_known, after_known}
 use Rattle.mt_chain.specs.Table.{table_of}
 use Rattle.mt_history.specs.declared.entry.Entry.{Entry}
@@ -7,11 +7,11 @@ use Rattle.mt_history.specs.Replies.{rows_of}
 use Rattle.mt_world.specs.Worlds.{WorldState, Tells, IsWorld}
 use Rattle.mt_world.specs.Turns.{IsSameWorld}
 use Rattle.mt_plain.specs.Left.{Broke, IsUnsupported}
-use Rattle.mt_front.specs.declared.session.End.{End}
-use Rattle.mt_front.specs.declared.session.End.TheVariants.{Input as AtEnd, BadInput}
-use Rattle.mt_front.specs.declared.session.Served.{Served}
-use Rattle.mt_front.specs.declared.session.ConnFault.{ConnFault}
-use Rattle.mt_front.specs.declared.session.ConnFault.TheVariants.{ReadFault, WriteFault, NoMemory}
+use Rattle.mt_front.specs.declared.connection.End.{End}
+use Rattle.mt_front.specs.declared.connection.End.TheVariants.{Input as AtEnd, BadInput}
+use Rattle.mt_front.specs.declared.connection.Served.{Served}
+use Rattle.mt_front.specs.declared.connection.ConnFault.{ConnFault}
+use Rattle.mt_front.specs.declared.connection.ConnFault.TheVariants.{ReadFault, WriteFault, NoMemory}
 use Rattle.mt_front.specs.Refusals.{unsupported_reply}
 use Rattle.mt_front.specs.Answers.{Exchange, AreExchanges, bytes_of, written_of, Past, FitsFrom, faults_of}
 
@@ -37,6 +37,11 @@ pub record Added (c : ℕ) (w w' : WorldState) : Type 0 where
   pub grew : w'.history.entries ≡ w.history.entries ++ more
   pub own : All (λ e. e.caller ≡ c) more
 
+-- each store that tells afterwards told before
+pub record ToldBefore (w w' : WorldState) : Type 0 where
+  pub old_told : is_some w'.old_store.told ≡ true → is_some w.old_store.told ≡ true
+  pub new_told : is_some w'.new_store.told ≡ true → is_some w.new_store.told ≡ true
+
 -- replies that a store failed are no more than the rise of the stores' counts; a count at its end says nothing more
 abbrev pub AreCaused : WorldState → List Exchange → WorldState → Type 0
 AreCaused w es w' = (w.old_store.faults + w.new_store.faults + faults_of es ≤ w'.old_store.faults + w'.new_store.faults)
@@ -49,7 +54,7 @@ pub record Talk (table : List ℕ) (w : WorldState) (known : Option (List ℕ)) 
   pub fits : FitsFrom 0 (Tells w') (past_of w') (length w.history.entries) es
   pub added : Added 0 w w'
   pub same : IsSameWorld w w'
-  pub tells : Tells w' → Tells w
+  pub told : ToldBefore w w'
   pub caused : AreCaused w es w'
 
 abbrev pub EndsAs : List ℕ → Output → List Exchange → Option (List ℕ) → ℕ → End → Input → Output → Type 0

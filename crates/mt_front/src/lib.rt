@@ -3,12 +3,12 @@
 
 mod asks;
 mod batch;
+mod connection;
 mod refusals;
 mod reply;
-mod session;
 
 pub use asks::{Asked, Echo, asked_by};
 pub use batch::batch_of;
+pub use connection::{ConnFault, End, Served, session};
 pub use refusals::{BadRequest, bad_request, cause_reply, history_full, store_fault, unsupported};
 pub use reply::{Prepared, done, prepare};
-pub use session::{ConnFault, End, Served};

@@ -180,7 +180,8 @@ pub fn prepare(alloc: Global, op: &Op, echo: Echo) -> Result<Prepared, NoMemory>
 /// fail.
 pub fn done(prepared: Prepared, tag: Tag) -> Vec<u8>
     requires { HasOwnRoom prepared }
-    ensures { result.items ≡ bytes_by prepared tag }
+    ensures bytes { result.items ≡ bytes_by prepared tag }
+    ensures tag { IsTag tag }
 {
     let Prepared { form, mut room } = prepared;
     put_reply(&mut room, &form, tag);
