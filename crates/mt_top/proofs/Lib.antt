@@ -1,15 +1,1 @@
-mod AskLaws
-mod EndLaws
-mod FieldLaws
-mod FillLaws
-mod FitLaws
-mod HeadLaws
-mod InsertLaws
-mod LineLaws
-mod RefusalLaws
-mod ReplyLaws
-mod RunLaws
 mod RunningLaws
-mod SectionLaws
-mod SessionLaws
-mod StoringLaws

@@ -1,249 +1,313 @@
--- A look at the stores, a session over them, and the depot that hands them out.
-use Rattle.std.proofs.Common.{◌≡◌, ◌≢◌, ℕ, ◌+◌, ◌-◌, ◌^◌, ◌≤◌, min, Bool, true, false, cond, List, [], ◌∷◌, Option, Some, None, Ok, Err, refl, sym, ap, ◌∙◌, arith, subst, inl, inr}
-use Rattle.std.specs.Prelude.{Result, IfSome, ◌⊎◌, is_some}
-use Rattle.mt_io.specs.Ends.{Input, Output, Rose}
-use Rattle.mt_chain.specs.declared.query.Next.{Next}
-use Rattle.mt_chain.specs.declared.query.PkFrom.{PkFrom}
-use Rattle.mt_chain.specs.declared.query.PkFrom.TheVariants.{From}
-use Rattle.mt_chain.specs.declared.depot.DepotFault.{DepotFault}
-use Rattle.mt_chain.specs.declared.depot.DepotFault.TheVariants as depot
-use Rattle.mt_chain.specs.Rows.{Rows, has_partition, is_past}
-use Rattle.mt_chain.specs.StoreCall.{Contents, IsNext}
-use Rattle.mt_chain.specs.Store.{Store, Onward, Same, Nexts}
-use Rattle.mt_chain.specs.Shelf.{Shelf, HandedOut, NotHandedOut, Opens, SameBeside, TakesBack}
-use Rattle.mt_chain.proofs.RowLaws.{no_rows}
-use Rattle.mt_top.specs.declared.session.SessionEnd.{SessionEnd}
-use Rattle.mt_top.specs.declared.session.SessionEnd.TheVariants as session_end
-use Rattle.mt_top.specs.declared.session.SessionFault.{SessionFault}
-use Rattle.mt_top.specs.declared.session.SessionFault.TheVariants as session_fault
+-- A session over two open stores, and the depot that hands them out.
+use Rattle.std.proofs.Common.{◌≡◌, ◌≢◌, ℕ, ◌+◌, ◌-◌, ◌^◌, ◌≤◌, min, Bool, true, false, cond, List, [], ◌++◌, length, Option, Some, None, Ok, Err, refl, sym, ap, ◌∙◌, arith, subst, inl, inr}
+use Rattle.std.specs.Prelude.{Result, IfSome, ◌⊎◌, is_some, All}
+use Rattle.std.proofs.lemmas.Bool.{cases_eq, cases_lt}
+use Rattle.mt_io.specs.Ends.{Input, Output}
+use Rattle.mt_chain.specs.StoreCall.{Contents}
+use Rattle.mt_chain.specs.Store.{Store, Rose, Onward, Same}
+use Rattle.mt_chain.specs.Shelf.{Shelf, HandedOut, SameBeside, TakesBack}
+use Rattle.mt_chain.specs.Table.{empty_table, table_of}
+use Rattle.mt_history.specs.declared.entry.Entry.{Entry}
+use Rattle.mt_history.specs.Replies.{rows_of}
+use Rattle.mt_history.specs.Legal.{IsLegal}
+use Rattle.mt_history.specs.Window.{replay}
+use Rattle.mt_meta.specs.Logical.{Pair}
+use Rattle.mt_meta.specs.Sound.{IsSound}
+use Rattle.mt_meta.specs.Steps.{logical_table}
+use Rattle.mt_world.specs.Worlds.{WorldState, Tells, IsReplayed, IsWorld, window_of}
+use Rattle.mt_world.specs.Worlds as worlds
+use Rattle.mt_world.specs.declared.opening.OpenFault.{OpenFault}
+use Rattle.mt_world.specs.declared.opening.OpenFault.TheVariants as opening
+use Rattle.mt_world.specs.Opening.{IsFresh, Opened, IsFirstNotFresh, ComesBack}
+use Rattle.mt_front.specs.declared.connection.End.TheVariants as end
+use Rattle.mt_front.specs.declared.connection.End.{End}
+use Rattle.mt_front.specs.declared.connection.Served.{Served as ServedTo}
+use Rattle.mt_front.specs.declared.connection.ConnFault.{ConnFault}
+use Rattle.mt_front.specs.declared.connection.ConnFault.TheVariants as conn
+use Rattle.mt_front.specs.Answers.{Exchange, FitsFrom, faults_of}
+use Rattle.mt_front.specs.Session.{past_of, SessionAs, EndsAs, Serves, Talk}
+use Rattle.mt_front.specs.Session as session
+use Rattle.mt_front.proofs.FitLaws.{past_with, fits_sooner}
 use Rattle.mt_top.specs.declared.running.Ending.{Ending}
 use Rattle.mt_top.specs.declared.running.Ending.TheVariants.{Served, BadWords, ReadFault, WriteFault, StoreFault, Occupied, Unsupported, NoMemory}
-use Rattle.mt_top.specs.declared.running.Look.{Look}
-use Rattle.mt_top.specs.declared.running.Look.TheVariants as look
-use Rattle.mt_top.specs.Session.{Exchange, IsFresh, Fits, SessionAs, Serves}
-use Rattle.mt_top.specs.Run.{ending_of, depot_ending, is_bad_words, Along, Tellings, Idle, NotFresh, Wrote, During, RunEnds, tellings_of, Over, depot_tellings, OverDepot, Looks, LooksBoth, look_of}
-use Rattle.std.proofs.lemmas.Bool.{cases_eq}
-use Rattle.mt_top.proofs.SessionLaws.{onward_both}
+use Rattle.mt_top.specs.Run.{table_name, history_limit, is_bad_words, Along, Tellings, Idle, NotFresh, AllTell, IsReplay, pair_of, window, past, Wrote, AreCaused, During, RunEnds, depot_tellings}
+use Rattle.mt_top.specs.Endings.{ending_at, ending_of, opening_ending, tellings_of, Over, OverDepot}
 
--- ---- a look at one store
+-- ---- one store before and after
 
-at_front : (pk : List ℕ) → is_past (From []) pk ≡ true
-at_front [] = refl
-at_front (x ∷ pk) = refl
-
-found_none : (rows : Rows) → IsNext (From []) None rows → rows ≡ []
-found_none rows none = no_rows rows (λ pk. none pk (at_front pk))
-
-found_some : (pk : List ℕ) (rows : Rows) → IsNext (From []) (Some pk) rows → rows ≡ [] → ⊥
-found_some pk rows some e = let h : false ≡ true = ap (λ rs. has_partition rs pk) (sym e) ∙ some.1 in cc
-
-weaken : (P Q : Contents → Contents → Type 0) (x y : Option Contents) → ((a b : Contents) → P a b → Q a b) → Onward P x y → Onward Q x y
-weaken P Q x None f p = tt
-weaken P Q None (Some b) f p = absurd p
-weaken P Q (Some a) (Some b) f p = f a b p
-
-fresh_rows : (a : Contents) (next : Option (List ℕ)) → IsNext (From []) next a.rows → is_some next ≡ false → a.rows ≡ []
-fresh_rows a None n e = found_none a.rows n
-fresh_rows a (Some pk) n e = absurd (let h : true ≡ false = e in cc)
-
-full_rows : (a : Contents) (next : Option (List ℕ)) → IsNext (From []) next a.rows → is_some next ≡ true → IsFresh a → ⊥
-full_rows a None n e fresh = absurd (let h : false ≡ true = e in cc)
-full_rows a (Some pk) n e fresh = found_some pk a.rows n fresh.empty
-
-looks_fresh : (k k' : Store) (next : Next) → Nexts k (From []) (Ok next) k' → is_some next.pk ≡ false → next.sealed ≡ false → Looks k look.Fresh k'
-looks_fresh k k' next n none unsealed = record {
-  number = n.counted.number;
-  faults = n.counted.faults;
-  looks = weaken _ (λ a b. (b ≡ a) × IsFresh a) k.told k'.told (λ a b p. (
-    p.0,
-    record {
-      empty = fresh_rows a next.pk p.1 none;
-      unsealed = sym p.2 ∙ unsealed;
-    },
-  )) n.next.2;
-}
-
-looks_occupied : (k k' : Store) (next : Next) → Nexts k (From []) (Ok next) k' → ((a : Contents) → IsNext (From []) next.pk a.rows → next.sealed ≡ a.sealed → IsFresh a → ⊥) → Looks k look.Occupied k'
-looks_occupied k k' next n full = record {
-  number = n.counted.number;
-  faults = n.counted.faults;
-  looks = weaken _ (λ a b. (b ≡ a) × (IsFresh a → ⊥)) k.told k'.told (λ a b p. (p.0, full a p.1 p.2)) n.next.2;
-}
-
-looks_at_row : (k k' : Store) (next : Next) → Nexts k (From []) (Ok next) k' → is_some next.pk ≡ true → Looks k look.Occupied k'
-looks_at_row k k' next n e = looks_occupied k k' next n (λ a i s. full_rows a next.pk i e)
-
-looks_at_seal : (k k' : Store) (next : Next) → Nexts k (From []) (Ok next) k' → next.sealed ≡ true → Looks k look.Occupied k'
-looks_at_seal k k' next n e = looks_occupied k k' next n (λ a i s fresh. let h : true ≡ false = sym e ∙ s ∙ fresh.unsealed in cc)
-
-looks_by : (k k' : Store) (next : Next) (row sealed : Bool) → Nexts k (From []) (Ok next) k' → is_some next.pk ≡ row → next.sealed ≡ sealed → Looks k (look_of row sealed) k'
-looks_by k k' next true sealed n e f = looks_at_row k k' next n e
-looks_by k k' next false true n e f = looks_at_seal k k' next n f
-looks_by k k' next false false n e f = looks_fresh k k' next n e f
-
-pub looks_shown : (k k' : Store) (at : PkFrom) (next : Next) (has_row : Bool) (r : Look) → at ≡ From [] → Nexts k at (Ok next) k' → has_row ≡ is_some next.pk → r ≡ look_of has_row next.sealed → Looks k r k'
-looks_shown k k' at next has_row r is n e f =
-    subst (λ v. Looks k v k') (sym (f ∙ ap (λ b. look_of b next.sealed) e)) (looks_by k k' next (is_some next.pk) next.sealed (subst (λ p. Nexts k p (Ok next) k') is n) refl refl)
-
--- ---- a session over both
-
-along : (P : Contents → Contents → Type 0) (x y : Option Contents) → Onward P x y → Along P x y
-along P None y p = tt
-along P (Some a) None p = tt
-along P (Some a) (Some b) p = p
-
-along_both : (P Q R : Contents → Contents → Type 0) (x y z : Option Contents) → ((a b c : Contents) → P a b → Q b c → R a c) → Onward P x y → Onward Q y z → Along R x z
-along_both P Q R x y z f p q = along R x z (onward_both P Q R x y z f p q)
-
-along_weaker : (P Q : Contents → Contents → Type 0) (x y : Option Contents) → ((a b : Contents) → P a b → Q a b) → Onward P x y → Along Q x y
-along_weaker P Q x y f p = along Q x y (weaken P Q x y f p)
-
-wrote : (s : Input) (w : Output) (k : Store) (es : List Exchange) (left : Option (List ℕ)) (r : Result SessionEnd SessionFault) (t : Input) (x : Output) (k' : Store)
-    → SessionAs s.left s w k es left r t x k' → Wrote s w (ending_of r) es left t x
-wrote s w k es left (Ok session_end.Input) t x k' e = e
-wrote s w k es left (Ok session_end.BadInput) t x k' e = e
-wrote s w k es left (Err session_fault.ReadFault) t x k' e = e
-wrote s w k es left (Err session_fault.WriteFault) t x k' e = e
-wrote s w k es left (Err session_fault.StoreFault) t x k' e = e.1
-wrote s w k es left (Err session_fault.NoMemory) t x k' e = e
-
-by_during : (s : Input) (w : Output) (c : Tellings) (r : Result SessionEnd SessionFault) (t : Input) (x : Output) → During s w (ending_of r) c t x → RunEnds s w (ending_of r) c t x
-by_during s w c (Ok session_end.Input) t x d = d
-by_during s w c (Ok session_end.BadInput) t x d = d
-by_during s w c (Err session_fault.ReadFault) t x d = d
-by_during s w c (Err session_fault.WriteFault) t x d = d
-by_during s w c (Err session_fault.StoreFault) t x d = inr d
-by_during s w c (Err session_fault.NoMemory) t x d = inr d
-
-spoken : (r : Result SessionEnd SessionFault) → is_bad_words (ending_of r) ≡ false
-spoken (Ok session_end.Input) = refl
-spoken (Ok session_end.BadInput) = refl
-spoken (Err session_fault.ReadFault) = refl
-spoken (Err session_fault.WriteFault) = refl
-spoken (Err session_fault.StoreFault) = refl
-spoken (Err session_fault.NoMemory) = refl
-
-rose_from : (k u k' : Store) → k.faults ≤ u.faults → Rose u.faults k'.faults → Rose k.faults k'.faults
-rose_from k u k' le rose = let r : min (u.faults + 1) (2 ^ 64 - 1) ≤ k'.faults = rose in omega (arith, le, r)
-
-cause : (s : Input) (w : Output) (k u : Store) (es : List Exchange) (left : Option (List ℕ)) (r : Result SessionEnd SessionFault) (t : Input) (x : Output) (k' : Store)
-    → k.faults ≤ u.faults → SessionAs s.left s w u es left r t x k' → ending_of r ≡ StoreFault → Rose k.faults k'.faults
-cause s w k u es left (Ok session_end.Input) t x k' le e is = cc
-cause s w k u es left (Ok session_end.BadInput) t x k' le e is = cc
-cause s w k u es left (Err session_fault.ReadFault) t x k' le e is = cc
-cause s w k u es left (Err session_fault.WriteFault) t x k' le e is = cc
-cause s w k u es left (Err session_fault.StoreFault) t x k' le e is = rose_from k u k' le e.0
-cause s w k u es left (Err session_fault.NoMemory) t x k' le e is = cc
-
-pub over_served : (s : Input) (w : Output) (k l u v : Store) (r : Result SessionEnd SessionFault) (t : Input) (x : Output) (k' : Store)
-    → k.number ≡ 0 → LooksBoth k l look.Fresh u v → Serves s w u r t x k' → Over s w k l (ending_of r) t x k' v
-over_served s w k l u v r t x k' zero looks served =
-    let number : u.number ≡ 0 = looks.number ∙ zero in
-    record {
-      number = served.talk.number ∙ looks.number;
-      number_new = looks.number_new;
-      spoken = spoken r;
-      ends = by_during s w (tellings_of k k' l v) r t x (record {
-        exchanges = served.exchanges;
-        left = served.left;
-        inserts = served.talk.inserts;
-        read = served.talk.read;
-        old_store = along_both (λ a b. (b ≡ a) × IsFresh a) (λ a b. IsFresh a → Fits u.number served.exchanges b) (λ a b. IsFresh a × Fits 0 served.exchanges b) k.told u.told k'.told
-            (λ a b c p q. (p.1, subst (λ n. Fits n served.exchanges c) number (q (subst IsFresh (sym p.0) p.1)))) looks.looks.0 served.talk.fits;
-        new_store = along_weaker (λ a b. (b ≡ a) × IsFresh a) (λ a b. IsFresh a × (b ≡ a)) l.told v.told (λ a b p. (p.1, p.0)) looks.looks.1;
-        wrote = wrote s w u served.exchanges served.left r t x k' served.ends;
-      });
-      cause = λ is. inl (cause s w k u served.exchanges served.left r t x k' looks.faults served.ends is);
-    }
-
-idle_over : (s : Input) (w : Output) (k l k' l' : Store) → Onward Same k.told k'.told → Onward Same l.told l'.told → Idle s w (tellings_of k k' l l') s w
-idle_over s w k l k' l' p q = record { source = refl; sink = refl; old_same = along Same k.told k'.told p; new_same = along Same l.told l'.told q }
-
-pub over_occupied : (s : Input) (w : Output) (k l k' l' : Store) → LooksBoth k l look.Occupied k' l' → Over s w k l Occupied s w k' l'
-over_occupied s w k l k' l' looks = record {
-  number = looks.number;
-  number_new = looks.number_new;
-  spoken = refl;
-  ends = (
-    idle_over s w k l k' l' looks.looks.0 looks.looks.1,
-    elim looks.looks.2 as (λ _. NotFresh k.told k'.told ⊎ NotFresh l.told l'.told) [
-      | inl p ↦ inl (along (λ a b. IsFresh a → ⊥) k.told k'.told p)
-      | inr p ↦ inr (along (λ a b. IsFresh a → ⊥) l.told l'.told p)
-    ],
-  );
-  cause = λ is. cc;
-}
-
-pub over_failed : (s : Input) (w : Output) (k l k' l' : Store) → LooksBoth k l look.Failed k' l' → Over s w k l StoreFault s w k' l'
-over_failed s w k l k' l' looks = record {
-  number = looks.number;
-  number_new = looks.number_new;
-  spoken = refl;
-  ends = inl (idle_over s w k l k' l' looks.looks.0 looks.looks.1);
-  cause = λ is. looks.looks.2;
-}
-
-pub over_starved : (s : Input) (w : Output) (k l k' l' : Store) → LooksBoth k l look.NoMemory k' l' → Over s w k l NoMemory s w k' l'
-over_starved s w k l k' l' looks = record {
-  number = looks.number;
-  number_new = looks.number_new;
-  spoken = refl;
-  ends = inl (idle_over s w k l k' l' looks.looks.0 looks.looks.1);
-  cause = λ is. cc;
-}
-
--- ---- the depot
-
-abbrev Carries : Option Contents → Option Contents → Option Contents → Option Contents → Type 1
-Carries a b a' b' = (P : Contents → Contents → Type 0) → Along P a b → Along P a' b'
-
-carries : (before k k' after : Option Contents) (tells : Bool) → IfSome before (λ c. k ≡ Some c) → after ≡ cond tells k' None → Carries k k' before after
-carries None k k' after tells h is P p = tt
-carries (Some a) k k' after true h is P p = subst (λ z. Along P (Some a) z) (sym is) (subst (λ z. Along P z k') h p)
-carries (Some a) k k' after false h is P p = subst (λ z. Along P (Some a) z) (sym is) tt
-
-carried_during : (s : Input) (w : Output) (ending : Ending) (c c' : Tellings) (t : Input) (x : Output) → Carries c.old_before c.old_after c'.old_before c'.old_after → Carries c.new_before c.new_after c'.new_before c'.new_after
-    → During s w ending c t x → During s w ending c' t x
-carried_during s w ending c c' t x f g d = record {
-  exchanges = d.exchanges;
-  left = d.left;
-  inserts = d.inserts;
-  read = d.read;
-  old_store = f (λ a b. IsFresh a × Fits 0 d.exchanges b) d.old_store;
-  new_store = g (λ a b. IsFresh a × (b ≡ a)) d.new_store;
-  wrote = d.wrote;
-}
-
-carried_idle : (s : Input) (w : Output) (c c' : Tellings) (t : Input) (x : Output) → Carries c.old_before c.old_after c'.old_before c'.old_after → Carries c.new_before c.new_after c'.new_before c'.new_after
-    → Idle s w c t x → Idle s w c' t x
-carried_idle s w c c' t x f g i = record { source = i.source; sink = i.sink; old_same = f Same i.old_same; new_same = g Same i.new_same }
-
-module _ (s : Input) (w : Output) (c c' : Tellings) (t : Input) (x : Output) (f : Carries c.old_before c.old_after c'.old_before c'.old_after) (g : Carries c.new_before c.new_after c'.new_before c'.new_after) where
-  idle_or : (ending : Ending) → Idle s w c t x ⊎ During s w ending c t x → Idle s w c' t x ⊎ During s w ending c' t x
-  idle_or ending (inl i) = inl (carried_idle s w c c' t x f g i)
-  idle_or ending (inr d) = inr (carried_during s w ending c c' t x f g d)
-
-  not_fresh : NotFresh c.old_before c.old_after ⊎ NotFresh c.new_before c.new_after → NotFresh c'.old_before c'.old_after ⊎ NotFresh c'.new_before c'.new_after
-  not_fresh (inl p) = inl (f (λ a b. IsFresh a → ⊥) p)
-  not_fresh (inr p) = inr (g (λ a b. IsFresh a → ⊥) p)
-
-  carried : (ending : Ending) → RunEnds s w ending c t x → RunEnds s w ending c' t x
-  carried Served e = carried_during s w Served c c' t x f g e
-  carried BadWords e = (e.0, e.1, f Same e.2, g Same e.3)
-  carried ReadFault e = carried_during s w ReadFault c c' t x f g e
-  carried WriteFault e = carried_during s w WriteFault c c' t x f g e
-  carried StoreFault e = idle_or StoreFault e
-  carried Occupied e = (carried_idle s w c c' t x f g e.0, not_fresh e.1)
-  carried Unsupported e = carried_during s w Unsupported c c' t x f g e
-  carried NoMemory e = idle_or NoMemory e
+along : (P Q : Contents → Contents → Type 0) (x y : Option Contents) → ((a b : Contents) → P a b → Q a b) → Onward P x y → Along Q x y
+along P Q None y f p = tt
+along P Q (Some a) None f p = tt
+along P Q (Some a) (Some b) f p = f a b p
 
 same_along : (x : Option Contents) → Along Same x x
 same_along None = tt
 same_along (Some a) = refl
 
-pub over_depot_law : (s : Input) (w : Output) (d d1 d2 d3 d4 : Shelf) (k l k' l' : Store) (ending : Ending) (t : Input) (x : Output)
-    → HandedOut d 0 k d1 → HandedOut d1 1 l d2 → Over s w k l ending t x k' l' → TakesBack d2 k' d3 → TakesBack d3 l' d4 → OverDepot s w d ending t x d4
-over_depot_law s w d d1 d2 d3 d4 k l k' l' ending t x a b over p q =
+-- a store that was opened without rows, while it tells: a session came between
+fresh_along : (x y z : Option Contents) → Onward Same x y → Onward (λ before after. IsFresh after) x y → (is_some z ≡ true → is_some y ≡ true) → Along (λ a b. IsFresh a) x z
+fresh_along None y z same fresh told = tt
+fresh_along (Some a) y None same fresh told = tt
+fresh_along (Some a) None (Some b) same fresh told = absurd (let e : false ≡ true = told refl in cc)
+fresh_along (Some a) (Some c) (Some b) same fresh told = subst IsFresh same fresh
+
+-- ---- the world at the end
+
+module _ (w : WorldState) (numbers : (w.old_store.number ≡ 0) × (w.new_store.number ≡ 1)) (base : w.base ≡ []) (first : w.history.first ≡ 0) where
+  pairs : (b b' : Contents) → worlds.pair_of w b b' ≡ pair_of b b'
+  pairs b b' =
+      ap (λ n. record { old_number = n; new_number = w.new_store.number; old = b; new = b' }) numbers.0
+      ∙ ap (λ n. record { old_number = 0; new_number = n; old = b; new = b' }) numbers.1
+
+  windows : window_of w ≡ window w.history.entries
+  windows =
+      ap (λ n. record { first = n; base = table_of (rows_of w.base); entries = w.history.entries }) first
+      ∙ ap (λ rows. record { first = 0; base = table_of (rows_of rows); entries = w.history.entries }) base
+
+  is_replay : (b b' : Contents) → IsReplayed w (worlds.pair_of w b b') → IsReplay w.history.entries (pair_of b b')
+  is_replay b b' r = record {
+    sound = subst IsSound (pairs b b') r.sound;
+    legal = subst IsLegal windows r.legal;
+    table = λ key. ap (λ (p : Pair). logical_table p key) (sym (pairs b b')) ∙ r.table key ∙ ap (λ rows. replay (table_of (rows_of rows)) w.history.entries key) base;
+  }
+
+  replayed_at : (x x' y y' : Option Contents) → IfSome y (λ b. IfSome y' (λ b'. IsReplayed w (worlds.pair_of w b b')))
+      → IfSome x (λ a. IfSome x' (λ a'. IfSome y (λ b. IfSome y' (λ b'. IsReplay w.history.entries (pair_of b b')))))
+  replayed_at None x' y y' r = tt
+  replayed_at (Some a) None y y' r = tt
+  replayed_at (Some a) (Some a') None y' r = tt
+  replayed_at (Some a) (Some a') (Some b) None r = tt
+  replayed_at (Some a) (Some a') (Some b) (Some b') r = is_replay b b' r
+
+-- ---- a session over both stores
+
+wrote_at : (s : Input) (o : Output) (es : List Exchange) (left : Option (List ℕ)) (requests : ℕ) (e : End) (t : Input) (x : Output) → EndsAs table_name o es left requests e t x → Wrote s o (ending_at e) es left t x
+wrote_at s o es left requests end.Input t x e = (e.0, e.1, e.2)
+wrote_at s o es left requests end.BadInput t x e = (e.0, e.1)
+
+wrote : (s : Input) (o : Output) (es : List Exchange) (left : Option (List ℕ)) (r : Result ServedTo ConnFault) (t : Input) (x : Output) → SessionAs table_name s o es left r t x → Wrote s o (ending_of r) es left t x
+wrote s o es left (Ok served) t x e = wrote_at s o es left served.requests served.«end» t x e
+wrote s o es left (Err conn.ReadFault) t x e = e
+wrote s o es left (Err conn.WriteFault) t x e = e
+wrote s o es left (Err conn.NoMemory) t x e = e
+
+at_end_during : (s : Input) (o : Output) (c : Tellings) (before now : ℕ) (e : End) (t : Input) (x : Output) → During s o (ending_at e) c before now t x → RunEnds s o (ending_at e) c before now t x
+at_end_during s o c before now end.Input t x d = d
+at_end_during s o c before now end.BadInput t x d = d
+
+by_during : (s : Input) (o : Output) (c : Tellings) (before now : ℕ) (r : Result ServedTo ConnFault) (t : Input) (x : Output) → During s o (ending_of r) c before now t x → RunEnds s o (ending_of r) c before now t x
+by_during s o c before now (Ok served) t x d = at_end_during s o c before now served.«end» t x d
+by_during s o c before now (Err conn.ReadFault) t x d = d
+by_during s o c before now (Err conn.WriteFault) t x d = d
+by_during s o c before now (Err conn.NoMemory) t x d = inr d
+
+spoken_at : (e : End) → is_bad_words (ending_at e) ≡ false
+spoken_at end.Input = refl
+spoken_at end.BadInput = refl
+
+spoken : (r : Result ServedTo ConnFault) → is_bad_words (ending_of r) ≡ false
+spoken (Ok served) = spoken_at served.«end»
+spoken (Err conn.ReadFault) = refl
+spoken (Err conn.WriteFault) = refl
+spoken (Err conn.NoMemory) = refl
+
+-- the counts of both stores together
+caused_both : (k l : Store) (w w' : WorldState) (es : List Exchange) → k.faults ≤ w.old_store.faults → l.faults ≤ w.new_store.faults → session.AreCaused w es w' → AreCaused (k.faults + l.faults) es (w'.old_store.faults + w'.new_store.faults)
+caused_both k l w w' es p q (inl h) = inl (omega (arith, p, q, h))
+caused_both k l w w' es p q (inr (inl h)) = inr (omega (arith, h))
+caused_both k l w w' es p q (inr (inr h)) = inr (omega (arith, h))
+
+module _ (s : Input) (o : Output) (k l : Store) (w : WorldState) (r : Result ServedTo ConnFault) (w' : WorldState) (t : Input) (x : Output) where
+  during : Opened k l history_limit w → Serves table_name w s o r w' t x → During s o (ending_of r) (tellings_of k w'.old_store l w'.new_store) (k.faults + l.faults) (w'.old_store.faults + w'.new_store.faults) t x
+  during opened served =
+      let base : w'.base ≡ [] = served.talk.same.base ∙ opened.base in
+      let limit : w'.history.limit ≡ history_limit = served.talk.same.limit ∙ opened.limit in
+      let pasts : past_of w' ≡ past w'.history.entries =
+      ap (λ rows. past_with (table_of (rows_of rows)) w'.history.limit w'.history.entries) base ∙ ap (λ n. past_with empty_table n w'.history.entries) limit in
+      record {
+        exchanges = served.exchanges;
+        left = served.left;
+        entries = w'.history.entries;
+        are = served.talk.are;
+        read = served.talk.read;
+        own = subst (λ (es : List Entry). All (λ (e : Entry). e.caller ≡ 0) es) (sym (served.talk.added.grew ∙ ap (λ (es : List Entry). es ++ served.talk.added.more) opened.nothing)) served.talk.added.own;
+        fits = fits_sooner 0 (Tells w') (AllTell (tellings_of k w'.old_store l w'.new_store)) (λ a. record { old = a.old_after; new = a.new_after }) (past w'.history.entries) 0 served.exchanges
+            (subst (λ n. FitsFrom 0 (Tells w') (past w'.history.entries) n served.exchanges) (ap length opened.nothing)
+            (subst (λ p. FitsFrom 0 (Tells w') p (length w.history.entries) served.exchanges) pasts served.talk.fits));
+        fresh = (
+          fresh_along k.told w.old_store.told w'.old_store.told opened.old_stays.contents opened.old_fresh served.talk.told.old_told,
+          fresh_along l.told w.new_store.told w'.new_store.told opened.new_stays.contents opened.new_fresh served.talk.told.new_told,
+        );
+        replayed = replayed_at w' served.world.numbers base served.world.whole k.told l.told w'.old_store.told w'.new_store.told served.world.replayed;
+        caused = caused_both k l w w' served.exchanges opened.old_stays.faults opened.new_stays.faults served.talk.caused;
+        wrote = wrote s o served.exchanges served.left r t x served.ends;
+      }
+
+  over_session : Opened k l history_limit w → Serves table_name w s o r w' t x → Over s o k l (ending_of r) t x w'.old_store w'.new_store
+  over_session opened served = record {
+    number = served.talk.same.old_number ∙ opened.old_stays.number;
+    number_new = served.talk.same.new_number ∙ opened.new_stays.number;
+    spoken = spoken r;
+    ends = by_during s o (tellings_of k w'.old_store l w'.new_store) (k.faults + l.faults) (w'.old_store.faults + w'.new_store.faults) r t x (during opened served);
+  }
+
+  pub over_served : (table : List ℕ) (ending : Ending) (k' l' : Store) → table ≡ table_name → ending ≡ ending_of r → k' ≡ w'.old_store → l' ≡ w'.new_store → Opened k l history_limit w → Serves table w s o r w' t x → Over s o k l ending t x k' l'
+  over_served table ending k' l' table_is ending_is old_is new_is opened served =
+      subst (λ n. Over s o k l n t x k' l') (sym ending_is)
+      (subst (λ m. Over s o k l (ending_of r) t x m l') (sym old_is)
+      (subst (λ m. Over s o k l (ending_of r) t x w'.old_store m) (sym new_is) (over_session opened (subst (λ n. Serves n w s o r w' t x) table_is served))))
+
+-- ---- stores that were not opened
+
+not_fresh_along : (x y : Option Contents) → Onward Same x y → Onward (λ before after. IsFresh after → ⊥) x y → NotFresh x y
+not_fresh_along None y same h = tt
+not_fresh_along (Some a) None same h = tt
+not_fresh_along (Some a) (Some b) same h = λ fresh. h (subst IsFresh (sym same) fresh)
+
+module _ (s : Input) (o : Output) (k l k' l' : Store) where
+  idle_over : (f : OpenFault) → ComesBack k l f k' l' → Idle s o (tellings_of k k' l l') s o
+  idle_over f c = record {
+    source = refl;
+    sink = refl;
+    old_same = along Same Same k.told k'.told (λ a b p. p) c.old_stays.contents;
+    new_same = along Same Same l.told l'.told (λ a b p. p) c.new_stays.contents;
+  }
+
+  not_fresh : (n : ℕ) → Onward Same k.told k'.told → Onward Same l.told l'.told → IsFirstNotFresh n k l k' l' → NotFresh k.told k'.told ⊎ NotFresh l.told l'.told
+  not_fresh n p q (inl h) = inl (not_fresh_along k.told k'.told p h.1)
+  not_fresh n p q (inr h) = inr (not_fresh_along l.told l'.told q h.2)
+
+  rose_both : Rose k.faults k'.faults ⊎ Rose l.faults l'.faults → k.faults ≤ k'.faults → l.faults ≤ l'.faults → Rose (k.faults + l.faults) (k'.faults + l'.faults)
+  rose_both (inl h) p q = let r : min (k.faults + 1) (2 ^ 64 - 1) ≤ k'.faults = h in let g : min (k.faults + l.faults + 1) (2 ^ 64 - 1) ≤ k'.faults + l'.faults = omega (arith, r, p, q) in g
+  rose_both (inr h) p q = let r : min (l.faults + 1) (2 ^ 64 - 1) ≤ l'.faults = h in let g : min (k.faults + l.faults + 1) (2 ^ 64 - 1) ≤ k'.faults + l'.faults = omega (arith, r, p, q) in g
+
+  refused_ends : (f : OpenFault) → ComesBack k l f k' l' → RunEnds s o (opening_ending f) (tellings_of k k' l l') (k.faults + l.faults) (k'.faults + l'.faults) s o
+  refused_ends (opening.NotEmpty n) c = (idle_over (opening.NotEmpty n) c, not_fresh n c.old_stays.contents c.new_stays.contents c.refused)
+  refused_ends opening.StoreFault c = (idle_over opening.StoreFault c, rose_both c.refused c.old_stays.faults c.new_stays.faults)
+  refused_ends opening.NoMemory c = inl (idle_over opening.NoMemory c)
+
+  spoken_opening : (f : OpenFault) → is_bad_words (opening_ending f) ≡ false
+  spoken_opening (opening.NotEmpty n) = refl
+  spoken_opening opening.StoreFault = refl
+  spoken_opening opening.NoMemory = refl
+
+  pub over_refused : (f : OpenFault) (ending : Ending) → ending ≡ opening_ending f → ComesBack k l f k' l' → Over s o k l ending s o k' l'
+  over_refused f ending is c = subst (λ n. Over s o k l n s o k' l') (sym is) (record { number = c.old_stays.number; number_new = c.new_stays.number; spoken = spoken_opening f; ends = refused_ends f c })
+
+-- ---- a depot tells of its stores no more than they do
+
+abbrev pub TellsLess : Option Contents → Option Contents → Type 0
+TellsLess less more = IfSome less (λ c. more ≡ Some c)
+
+less_self : (x : Option Contents) → TellsLess x x
+less_self None = tt
+less_self (Some a) = refl
+
+-- a store that came back, into a depot that tells or does not
+back_less : (z y : Option Contents) (tells : Bool) → z ≡ cond tells y None → TellsLess z y
+back_less z y true e = subst (λ v. TellsLess v y) (sym e) (less_self y)
+back_less z y false e = subst (λ v. TellsLess v y) (sym e) tt
+
+along_less : (P : Contents → Contents → Type 0) (x y x' y' : Option Contents) → TellsLess x' x → TellsLess y' y → Along P x y → Along P x' y'
+along_less P x y None y' f g p = tt
+along_less P x y (Some a) None f g p = tt
+along_less P x y (Some a) (Some b) f g p = subst (λ z. Along P z (Some b)) f (subst (λ z. Along P x z) g p)
+
+some_less : (x x' : Option Contents) → TellsLess x' x → is_some x' ≡ true → is_some x ≡ true
+some_less x None f e = absurd (let h : false ≡ true = e in cc)
+some_less x (Some a) f e = ap is_some f
+
+all_less : (Q : Contents → Contents → Type 0) (x y z u x' y' z' u' : Option Contents) → TellsLess x' x → TellsLess y' y → TellsLess z' z → TellsLess u' u
+    → IfSome x (λ a. IfSome y (λ a'. IfSome z (λ b. IfSome u (λ b'. Q b b')))) → IfSome x' (λ a. IfSome y' (λ a'. IfSome z' (λ b. IfSome u' (λ b'. Q b b'))))
+all_less Q x y z u None y' z' u' f g h i p = tt
+all_less Q x y z u (Some a) None z' u' f g h i p = tt
+all_less Q x y z u (Some a) (Some a') None u' f g h i p = tt
+all_less Q x y z u (Some a) (Some a') (Some b) None f g h i p = tt
+all_less Q x y z u (Some a) (Some a') (Some b) (Some b') f g h i p =
+    let one : IfSome y (λ m. IfSome z (λ m'. IfSome u (λ n. Q m' n))) = subst (λ v. IfSome v (λ c. IfSome y (λ m. IfSome z (λ m'. IfSome u (λ n. Q m' n))))) f p in
+    let two : IfSome z (λ m'. IfSome u (λ n. Q m' n)) = subst (λ v. IfSome v (λ m. IfSome z (λ m'. IfSome u (λ n. Q m' n)))) g one in
+    let three : IfSome u (λ n. Q b n) = subst (λ v. IfSome v (λ m'. IfSome u (λ n. Q m' n))) h two in
+    subst (λ v. IfSome v (λ n. Q b n)) i three
+
+pub record Less (c c' : Tellings) : Type 0 where
+  pub old_before : TellsLess c'.old_before c.old_before
+  pub old_after : TellsLess c'.old_after c.old_after
+  pub new_before : TellsLess c'.new_before c.new_before
+  pub new_after : TellsLess c'.new_after c.new_after
+
+-- ---- what is so over the stores is so over the depot
+
+module _ (s : Input) (o : Output) (c c' : Tellings) (t : Input) (x : Output) (less : Less c c') (b n b' n' : ℕ) (zero : b ≡ 0) (grew : min (b' + n) (2 ^ 64 - 1) ≤ n') where
+  carried_caused : (es : List Exchange) → AreCaused b es n → AreCaused b' es n'
+  carried_caused es (inl h) = elim (cases_lt n' (2 ^ 64 - 1)) as (λ _. (b' + faults_of es ≤ n') ⊎ (2 ^ 64 - 1 ≤ n')) [
+    | inl lt ↦ inl (omega (arith, h, lt, grew))
+    | inr ge ↦ inr ge
+  ]
+  carried_caused es (inr h) = inr (omega (arith, h, grew))
+
+  carried_rose : Rose b n → Rose b' n'
+  carried_rose h = let r : min (b + 1) (2 ^ 64 - 1) ≤ n = h in let g : min (b' + 1) (2 ^ 64 - 1) ≤ n' = omega (arith, r, zero, grew) in g
+
+  carried_during : (ending : Ending) → During s o ending c b n t x → During s o ending c' b' n' t x
+  carried_during ending d = record {
+    exchanges = d.exchanges;
+    left = d.left;
+    entries = d.entries;
+    are = d.are;
+    read = d.read;
+    own = d.own;
+    fits = fits_sooner 0 (AllTell c) (AllTell c') (λ a. record {
+      old_before = some_less c.old_before c'.old_before less.old_before a.old_before;
+      old_after = some_less c.old_after c'.old_after less.old_after a.old_after;
+      new_before = some_less c.new_before c'.new_before less.new_before a.new_before;
+      new_after = some_less c.new_after c'.new_after less.new_after a.new_after;
+    }) (past d.entries) 0 d.exchanges d.fits;
+    fresh = (
+      along_less (λ a b. IsFresh a) c.old_before c.old_after c'.old_before c'.old_after less.old_before less.old_after d.fresh.0,
+      along_less (λ a b. IsFresh a) c.new_before c.new_after c'.new_before c'.new_after less.new_before less.new_after d.fresh.1,
+    );
+    replayed = all_less (λ m m'. IsReplay d.entries (pair_of m m')) c.old_before c.new_before c.old_after c.new_after c'.old_before c'.new_before c'.old_after c'.new_after
+        less.old_before less.new_before less.old_after less.new_after d.replayed;
+    caused = carried_caused d.exchanges d.caused;
+    wrote = d.wrote;
+  }
+
+  carried_idle : Idle s o c t x → Idle s o c' t x
+  carried_idle i = record {
+    source = i.source;
+    sink = i.sink;
+    old_same = along_less Same c.old_before c.old_after c'.old_before c'.old_after less.old_before less.old_after i.old_same;
+    new_same = along_less Same c.new_before c.new_after c'.new_before c'.new_after less.new_before less.new_after i.new_same;
+  }
+
+  carried_or : Idle s o c t x ⊎ During s o NoMemory c b n t x → Idle s o c' t x ⊎ During s o NoMemory c' b' n' t x
+  carried_or (inl i) = inl (carried_idle i)
+  carried_or (inr d) = inr (carried_during NoMemory d)
+
+  carried_full : NotFresh c.old_before c.old_after ⊎ NotFresh c.new_before c.new_after → NotFresh c'.old_before c'.old_after ⊎ NotFresh c'.new_before c'.new_after
+  carried_full (inl p) = inl (along_less (λ a b. IsFresh a → ⊥) c.old_before c.old_after c'.old_before c'.old_after less.old_before less.old_after p)
+  carried_full (inr p) = inr (along_less (λ a b. IsFresh a → ⊥) c.new_before c.new_after c'.new_before c'.new_after less.new_before less.new_after p)
+
+  carried : (ending : Ending) → RunEnds s o ending c b n t x → RunEnds s o ending c' b' n' t x
+  carried Served e = carried_during Served e
+  carried BadWords e = (
+    e.0,
+    e.1,
+    along_less Same c.old_before c.old_after c'.old_before c'.old_after less.old_before less.old_after e.2,
+    along_less Same c.new_before c.new_after c'.new_before c'.new_after less.new_before less.new_after e.3,
+  )
+  carried ReadFault e = carried_during ReadFault e
+  carried WriteFault e = carried_during WriteFault e
+  carried StoreFault e = (carried_idle e.0, carried_rose e.1)
+  carried Occupied e = (carried_idle e.0, carried_full e.1)
+  carried Unsupported e = carried_during Unsupported e
+  carried NoMemory e = carried_or e
+
+pub over_depot_law : (s : Input) (o : Output) (d d1 d2 d3 d4 : Shelf) (k l k' l' : Store) (ending : Ending) (t : Input) (x : Output)
+    → HandedOut d 0 k d1 → HandedOut d1 1 l d2 → Over s o k l ending t x k' l' → TakesBack d2 k' d3 → TakesBack d3 l' d4 → OverDepot s o d ending t x d4
+over_depot_law s o d d1 d2 d3 d4 k l k' l' ending t x a b over p q =
+    let none : k.faults + l.faults ≡ 0 = omega (arith, a.clean, b.clean) in
+    let sum : min (d.faults + (k'.faults + l'.faults)) (2 ^ 64 - 1) ≤ d4.faults = omega (arith, a.faults, b.faults, p.faults, q.faults) in
     let zero : k'.number ≡ 0 = over.number ∙ a.number in
     let one : l'.number ≡ 1 = over.number_new ∙ b.number in
     let pz : SameBeside 0 d2 d3 = subst (λ n. SameBeside n d2 d3) zero p.beside in
@@ -254,12 +318,12 @@ over_depot_law s w d d1 d2 d3 d4 k l k' l' ending t x a b over p q =
     let ne10 : 1 ≢ 0 = λ e. omega (arith, e) in
     let told0 : d4.told 0 ≡ cond d2.tells k'.told None = qo.told 0 ne01 ∙ subst (λ n. d3.told n ≡ cond d2.tells k'.told None) zero p.told in
     let told1 : d4.told 1 ≡ cond d3.tells l'.told None = subst (λ n. d4.told n ≡ cond d3.tells l'.told None) one q.told in
-    let before1 : IfSome (d.told 1) (λ c. l.told ≡ Some c) = subst (λ z. IfSome z (λ c. l.told ≡ Some c)) (a.beside.told 1 ne10) b.told in
+    let before1 : TellsLess (d.told 1) l.told = subst (λ z. TellsLess z l.told) (a.beside.told 1 ne10) b.told in
     record {
       spoken = over.spoken;
-      ends = carried s w (tellings_of k k' l l') (depot_tellings d d4) t x
-          (carries (d.told 0) k.told k'.told (d4.told 0) d2.tells a.told told0)
-          (carries (d.told 1) l.told l'.told (d4.told 1) d3.tells before1 told1) ending over.ends;
+      ends = carried s o (tellings_of k k' l l') (depot_tellings d d4) t x
+          (record { old_before = a.told; old_after = back_less (d4.told 0) k'.told d2.tells told0; new_before = before1; new_after = back_less (d4.told 1) l'.told d3.tells told1 })
+          (k.faults + l.faults) (k'.faults + l'.faults) d.faults d4.faults none sum ending over.ends;
       back = record {
         tells = qo.tells ∙ pz.tells ∙ b.beside.tells ∙ a.beside.tells;
         out = λ n was. elim (cases_eq n 1) as (λ _. d4.out n ≡ false) [
@@ -271,57 +335,4 @@ over_depot_law s w d d1 d2 d3 d4 k l k' l' ending t x a b over p q =
         ];
         others = λ n nz ne. qo.told n ne ∙ pz.told n nz ∙ b.beside.told n ne ∙ a.beside.told n nz;
       };
-      cause = λ is. elim (over.cause is) as (λ _. Rose d.faults d4.faults) [
-        | inl r ↦ (let rose : min (k.faults + 1) (2 ^ 64 - 1) ≤ k'.faults = r in let c : k.faults ≡ 0 = a.clean in omega (arith, rose, c, a.faults, b.faults, p.faults, q.faults))
-        | inr r ↦ (let rose : min (l.faults + 1) (2 ^ 64 - 1) ≤ l'.faults = r in let c : l.faults ≡ 0 = b.clean in omega (arith, rose, c, a.faults, b.faults, p.faults, q.faults))
-      ];
-    }
-
--- opening failed, and nothing else was done
-idle_end : (s : Input) (w : Output) (c : Tellings) (f : DepotFault) → Along Same c.old_before c.old_after → Along Same c.new_before c.new_after → RunEnds s w (depot_ending f) c s w
-idle_end s w c depot.Failed p q = inl (record { source = refl; sink = refl; old_same = p; new_same = q })
-idle_end s w c depot.NoMemory p q = inl (record { source = refl; sink = refl; old_same = p; new_same = q })
-
-depot_spoken : (f : DepotFault) → is_bad_words (depot_ending f) ≡ false
-depot_spoken depot.Failed = refl
-depot_spoken depot.NoMemory = refl
-
-not_out : {K : Type 0} (state : K → Store) (d : Shelf) (n : ℕ) (f : DepotFault) (d' : Shelf) → Opens state d n (Err f) d' → NotHandedOut d d'
-not_out state d n depot.Failed d' o = o.0
-not_out state d n depot.NoMemory d' o = o
-
-fails_rose : {K : Type 0} (state : K → Store) (d : Shelf) (n : ℕ) (f : DepotFault) (d' : Shelf) → Opens state d n (Err f) d' → depot_ending f ≡ StoreFault → Rose d.faults d'.faults
-fails_rose state d n depot.Failed d' o is = o.1
-fails_rose state d n depot.NoMemory d' o is = cc
-
-pub none_opened : {K : Type 0} (state : K → Store) (s : Input) (w : Output) (d d' : Shelf) (f : DepotFault) → Opens state d 0 (Err f) d' → OverDepot s w d (depot_ending f) s w d'
-none_opened state s w d d' f o =
-    let n : NotHandedOut d d' = not_out state d 0 f d' o in
-    record {
-      spoken = depot_spoken f;
-      ends = idle_end s w (depot_tellings d d') f (subst (λ z. Along Same (d.told 0) z) (sym (n.told 0)) (same_along (d.told 0))) (subst (λ z. Along Same (d.told 1) z) (sym (n.told 1)) (same_along (d.told 1)));
-      back = record { tells = n.tells; out = λ m was. n.out m ∙ was; others = λ m a b. n.told m };
-      cause = fails_rose state d 0 f d' o;
-    }
-
-pub one_opened : {K : Type 0} (state : K → Store) (s : Input) (w : Output) (d d1 d2 d3 : Shelf) (k : Store) (f : DepotFault) → HandedOut d 0 k d1 → Opens state d1 1 (Err f) d2 → TakesBack d2 k d3 → OverDepot s w d (depot_ending f) s w d3
-one_opened state s w d d1 d2 d3 k f a o p =
-    let n : NotHandedOut d1 d2 = not_out state d1 1 f d2 o in
-    let pz : SameBeside 0 d2 d3 = subst (λ m. SameBeside m d2 d3) a.number p.beside in
-    let zero_in : d3.out 0 ≡ false = subst (λ m. d3.out m ≡ false) a.number p.in_again in
-    let ne10 : 1 ≢ 0 = λ e. omega (arith, e) in
-    let told0 : d3.told 0 ≡ cond d2.tells k.told None = subst (λ m. d3.told m ≡ cond d2.tells k.told None) a.number p.told in
-    let told1 : d3.told 1 ≡ d.told 1 = pz.told 1 ne10 ∙ n.told 1 ∙ a.beside.told 1 ne10 in
-    record {
-      spoken = depot_spoken f;
-      ends = idle_end s w (depot_tellings d d3) f (carries (d.told 0) k.told k.told (d3.told 0) d2.tells a.told told0 Same (same_along k.told)) (subst (λ z. Along Same (d.told 1) z) (sym told1) (same_along (d.told 1)));
-      back = record {
-        tells = pz.tells ∙ n.tells ∙ a.beside.tells;
-        out = λ m was. elim (cases_eq m 0) as (λ _. d3.out m ≡ false) [
-          | inl e ↦ subst (λ i. d3.out i ≡ false) (sym e) zero_in
-          | inr nz ↦ pz.out m nz ∙ n.out m ∙ a.beside.out m nz ∙ was
-        ];
-        others = λ m nz ne. pz.told m nz ∙ n.told m ∙ a.beside.told m nz;
-      };
-      cause = λ is. let r : Rose d1.faults d2.faults = fails_rose state d1 1 f d2 o is in let rose : min (d1.faults + 1) (2 ^ 64 - 1) ≤ d2.faults = r in omega (arith, rose, a.faults, p.faults);
     }

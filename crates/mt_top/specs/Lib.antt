@@ -1,14 +1,2 @@
-pub mod Heads
-pub mod Inserts
-pub mod Refusals
-pub mod Asks
-pub mod Reading
-pub mod Runs
-pub mod Peels
-pub mod HeadEnds
-pub mod Filling
-pub mod Storing
-pub mod Replies
-pub mod Session
-pub mod Turns
 pub mod Run
+pub mod Endings

@@ -1,23 +1,23 @@
--- A run of the program: the words, the stores of the depot, and a session.
-use Rattle.std.specs.Prelude.{◌≡◌, ◌≢◌, ◌⊎◌, ℕ, ◌≤◌, Bool, true, false, not, bytes_eq, string_bytes, String, List, [], ◌∷◌, ◌++◌, codes, Option, Result, Ok, Err, IfSome}
-use Rattle.mt_io.specs.Ends.{Input, Output, Rose}
+-- A run of the program: the words, the stores of the depot, and a session over the world that they are opened as.
+use Rattle.std.specs.Prelude.{◌≡◌, ◌≢◌, ◌⊎◌, ℕ, ◌+◌, ◌-◌, ◌^◌, ◌≤◌, Bool, true, false, not, All, bytes_eq, is_some, string_bytes, String, List, [], ◌∷◌, ◌++◌, codes, Option, IfSome}
+use Rattle.mt_io.specs.Ends.{Input, Output, Rose, before_known}
 use Rattle.mt_chain.specs.StoreCall.{Contents}
-use Rattle.mt_chain.specs.Store.{Store, Onward, Same}
+use Rattle.mt_chain.specs.Store.{Same}
 use Rattle.mt_chain.specs.Shelf.{Shelf}
-use Rattle.mt_chain.specs.declared.depot.DepotFault.{DepotFault}
-use Rattle.mt_chain.specs.declared.depot.DepotFault.TheVariants as depot
+use Rattle.mt_chain.specs.Table.{empty_table, IsSameTable}
+use Rattle.mt_history.specs.declared.entry.Entry.{Entry}
+use Rattle.mt_history.specs.Window.{Window, replay}
+use Rattle.mt_history.specs.Legal.{IsLegal}
+use Rattle.mt_meta.specs.Logical.{Pair}
+use Rattle.mt_meta.specs.Sound.{IsSound}
+use Rattle.mt_meta.specs.Steps.{logical_table}
+use Rattle.mt_world.specs.Opening.{IsFresh}
+use Rattle.mt_plain.specs.Left.{Broke, IsUnsupported}
+use Rattle.mt_front.specs.Refusals.{unsupported_reply}
+use Rattle.mt_front.specs.Answers.{Exchange, AreExchanges, bytes_of, written_of, Past, FitsFrom, faults_of}
+use Rattle.mt_front.specs.Session.{Sent, Cut}
 use Rattle.mt_top.specs.declared.running.Ending.{Ending}
 use Rattle.mt_top.specs.declared.running.Ending.TheVariants.{Served, BadWords, ReadFault, WriteFault, StoreFault, Occupied, Unsupported, NoMemory}
-use Rattle.mt_top.specs.declared.running.Look.{Look}
-use Rattle.mt_top.specs.declared.running.Look.TheVariants as look
-use Rattle.mt_top.specs.declared.session.SessionEnd.{SessionEnd}
-use Rattle.mt_top.specs.declared.session.SessionEnd.TheVariants as session_end
-use Rattle.mt_top.specs.declared.session.SessionFault.{SessionFault}
-use Rattle.mt_top.specs.declared.session.SessionFault.TheVariants as session_fault
-use Rattle.mt_top.specs.Reading.{Broke, IsUnsupported}
-use Rattle.mt_top.specs.Replies.{unsupported_reply}
-use Rattle.mt_top.specs.Session.{Exchange, bytes_of, written_of, AreInserts, IsFresh, Fits, Sent, Cut}
-use Rattle.mt_io.specs.Ends.{before_known}
 
 -- the one word `session`
 abbrev pub is_session : {A : Type 0} → List (String A) → Bool
@@ -26,6 +26,13 @@ is_session words = false
 
 abbrev pub usage : List ℕ
 usage = codes "usage: mtable session|drill|serve [options]\n"
+
+-- the table, and how many entries its history may have
+abbrev pub table_name : List ℕ
+table_name = codes "Orders"
+
+abbrev pub history_limit : ℕ
+history_limit = 1048576
 
 -- the status of each ending
 abbrev pub code_of : Ending → ℕ
@@ -48,54 +55,6 @@ is_bad_words Occupied = false
 is_bad_words Unsupported = false
 is_bad_words NoMemory = false
 
--- ---- over two stores
-
--- what a look shows: whether there is a row, and whether the store is sealed
-abbrev pub look_of : Bool → Bool → Look
-look_of true sealed = look.Occupied
-look_of false true = look.Occupied
-look_of false false = look.Fresh
-
-abbrev pub LooksAs : Store → Look → Store → Type 0
-LooksAs k look.Fresh k' = Onward (λ a b. (b ≡ a) × IsFresh a) k.told k'.told
-LooksAs k look.Occupied k' = Onward (λ a b. (b ≡ a) × (IsFresh a → ⊥)) k.told k'.told
-LooksAs k look.Failed k' = Rose k.faults k'.faults × Onward Same k.told k'.told
-LooksAs k look.NoMemory k' = Onward Same k.told k'.told
-
--- whether a store has a row or is sealed
-pub record Looks (k : Store) (r : Look) (k' : Store) : Type 0 where
-  pub number : k'.number ≡ k.number
-  pub faults : k.faults ≤ k'.faults
-  pub looks : LooksAs k r k'
-
-abbrev pub BothLook : Store → Store → Look → Store → Store → Type 0
-BothLook k l look.Fresh k' l' = Onward (λ a b. (b ≡ a) × IsFresh a) k.told k'.told × Onward (λ a b. (b ≡ a) × IsFresh a) l.told l'.told
-BothLook k l look.Occupied k' l' = Onward Same k.told k'.told × Onward Same l.told l'.told
-    × (Onward (λ a b. IsFresh a → ⊥) k.told k'.told ⊎ Onward (λ a b. IsFresh a → ⊥) l.told l'.told)
-BothLook k l look.Failed k' l' = Onward Same k.told k'.told × Onward Same l.told l'.told × (Rose k.faults k'.faults ⊎ Rose l.faults l'.faults)
-BothLook k l look.NoMemory k' l' = Onward Same k.told k'.told × Onward Same l.told l'.told
-
--- whether one of two stores has a row or is sealed
-pub record LooksBoth (k l : Store) (r : Look) (k' l' : Store) : Type 0 where
-  pub number : k'.number ≡ k.number
-  pub number_new : l'.number ≡ l.number
-  pub faults : k.faults ≤ k'.faults
-  pub faults_new : l.faults ≤ l'.faults
-  pub looks : BothLook k l r k' l'
-
--- how a session's result ends the run
-abbrev pub ending_of : Result SessionEnd SessionFault → Ending
-ending_of (Ok session_end.Input) = Served
-ending_of (Ok session_end.BadInput) = Unsupported
-ending_of (Err session_fault.ReadFault) = ReadFault
-ending_of (Err session_fault.WriteFault) = WriteFault
-ending_of (Err session_fault.StoreFault) = StoreFault
-ending_of (Err session_fault.NoMemory) = NoMemory
-
-abbrev pub depot_ending : DepotFault → Ending
-depot_ending depot.Failed = StoreFault
-depot_ending depot.NoMemory = NoMemory
-
 -- where a store tells before and after, this relates the two
 abbrev pub Along : (Contents → Contents → Type 0) → Option Contents → Option Contents → Type 0
 Along P before after = IfSome before (λ a. IfSome after (λ b. P a b))
@@ -108,9 +67,9 @@ pub record Tellings : Type 0 where
   pub new_after : Option Contents
 
 -- nothing was read or written, and both stores are as before
-pub record Idle (s : Input) (w : Output) (c : Tellings) (t : Input) (x : Output) : Type 0 where
+pub record Idle (s : Input) (o : Output) (c : Tellings) (t : Input) (x : Output) : Type 0 where
   pub source : t ≡ s
-  pub sink : x ≡ w
+  pub sink : x ≡ o
   pub old_same : Along Same c.old_before c.old_after
   pub new_same : Along Same c.new_before c.new_after
 
@@ -118,52 +77,68 @@ pub record Idle (s : Input) (w : Output) (c : Tellings) (t : Input) (x : Output)
 abbrev pub NotFresh : Option Contents → Option Contents → Type 0
 NotFresh before after = Along (λ a b. IsFresh a → ⊥) before after
 
+-- both stores tell before the run and after it
+pub record AllTell (c : Tellings) : Type 0 where
+  pub old_before : is_some c.old_before ≡ true
+  pub old_after : is_some c.old_after ≡ true
+  pub new_before : is_some c.new_before ≡ true
+  pub new_after : is_some c.new_after ≡ true
+
+-- a history from the empty table on
+abbrev pub window : List Entry → Window
+window entries = record { first = 0; base = empty_table; entries = entries }
+
+abbrev pub past : List Entry → Past
+past entries = record { base = empty_table; limit = history_limit; entries = entries }
+
+-- the two stores are a sound pair, and what clients see of them is what the history, which is legal, makes of the empty table
+pub record IsReplay (entries : List Entry) (p : Pair) : Type 0 where
+  pub sound : IsSound p
+  pub legal : IsLegal (window entries)
+  pub table : IsSameTable (logical_table p) (replay empty_table entries)
+
+abbrev pub pair_of : Contents → Contents → Pair
+pair_of old new = record { old_number = 0; new_number = 1; old = old; new = new }
+
 -- what was written, and what is left of the input, by the ending
 abbrev pub Wrote : Input → Output → Ending → List Exchange → Option (List ℕ) → Input → Output → Type 0
-Wrote s w Served es left t x = IfSome left (λ all. all ≡ []) × IfSome t.left (λ all. all ≡ []) × Sent w (written_of es) x
-Wrote s w BadWords es left t x = ⊥
-Wrote s w ReadFault es left t x = Broke left s t × Sent w (written_of es) x
-Wrote s w WriteFault es left t x = Cut w (written_of es) x ⊎ (IsUnsupported left × Cut w (written_of es ++ unsupported_reply) x)
-Wrote s w StoreFault es left t x = Sent w (written_of es) x
-Wrote s w Occupied es left t x = ⊥
-Wrote s w Unsupported es left t x = IsUnsupported left × Sent w (written_of es ++ unsupported_reply) x
-Wrote s w NoMemory es left t x = Sent w (written_of es) x
+Wrote s o Served es left t x = IfSome left (λ all. all ≡ []) × IfSome t.left (λ all. all ≡ []) × Sent o (written_of es) x
+Wrote s o BadWords es left t x = ⊥
+Wrote s o ReadFault es left t x = Broke table_name left s t × Sent o (written_of es) x
+Wrote s o WriteFault es left t x = Cut o (written_of es) x ⊎ (IsUnsupported table_name left × Cut o (written_of es ++ unsupported_reply) x)
+Wrote s o StoreFault es left t x = ⊥
+Wrote s o Occupied es left t x = ⊥
+Wrote s o Unsupported es left t x = IsUnsupported table_name left × Sent o (written_of es ++ unsupported_reply) x
+Wrote s o NoMemory es left t x = Sent o (written_of es) x
 
--- both stores were found without a row and not sealed; the exchanges are the plain inserts of the bytes, in order, up to
--- what is left, with the answers of the reference table, and the old store holds what was written; the new one stays
-pub record During (s : Input) (w : Output) (ending : Ending) (c : Tellings) (t : Input) (x : Output) : Type 0 where
+-- replies that a store failed are no more than the rise of the depot's count; a count at its end says nothing more
+abbrev pub AreCaused : ℕ → List Exchange → ℕ → Type 0
+AreCaused before es now = (before + faults_of es ≤ now) ⊎ (2 ^ 64 - 1 ≤ now)
+
+-- both stores were found without a row and not sealed; the requests are the bytes, in order, up to what is left; there is a history of them, to which their replies fit, and of nothing else; and the stores hold what it made of the empty table
+pub record During (s : Input) (o : Output) (ending : Ending) (c : Tellings) (before now : ℕ) (t : Input) (x : Output) : Type 0 where
   pub exchanges : List Exchange
   pub left : Option (List ℕ)
-  pub inserts : AreInserts exchanges
+  pub entries : List Entry
+  pub are : AreExchanges table_name exchanges
   pub read : s.left ≡ before_known (bytes_of exchanges) left
-  pub old_store : Along (λ a b. IsFresh a × Fits 0 exchanges b) c.old_before c.old_after
-  pub new_store : Along (λ a b. IsFresh a × (b ≡ a)) c.new_before c.new_after
-  pub wrote : Wrote s w ending exchanges left t x
+  pub own : All (λ e. e.caller ≡ 0) entries
+  pub fits : FitsFrom 0 (AllTell c) (past entries) 0 exchanges
+  pub fresh : Along (λ a b. IsFresh a) c.old_before c.old_after × Along (λ a b. IsFresh a) c.new_before c.new_after
+  pub replayed : IfSome c.old_before (λ a. IfSome c.new_before (λ a'. IfSome c.old_after (λ b. IfSome c.new_after (λ b'. IsReplay entries (pair_of b b')))))
+  pub caused : AreCaused before exchanges now
+  pub wrote : Wrote s o ending exchanges left t x
 
--- what each ending says
-abbrev pub RunEnds : Input → Output → Ending → Tellings → Input → Output → Type 0
-RunEnds s w Served c t x = During s w Served c t x
-RunEnds s w BadWords c t x = (t ≡ s) × (Sent w usage x ⊎ Cut w usage x) × Along Same c.old_before c.old_after × Along Same c.new_before c.new_after
-RunEnds s w ReadFault c t x = During s w ReadFault c t x
-RunEnds s w WriteFault c t x = During s w WriteFault c t x
-RunEnds s w StoreFault c t x = Idle s w c t x ⊎ During s w StoreFault c t x
-RunEnds s w Occupied c t x = Idle s w c t x × (NotFresh c.old_before c.old_after ⊎ NotFresh c.new_before c.new_after)
-RunEnds s w Unsupported c t x = During s w Unsupported c t x
-RunEnds s w NoMemory c t x = Idle s w c t x ⊎ During s w NoMemory c t x
-
-abbrev pub tellings_of : Store → Store → Store → Store → Tellings
-tellings_of k k' l l' = record { old_before = k.told; old_after = k'.told; new_before = l.told; new_after = l'.told }
-
-abbrev pub IfStoreFault : Ending → Type 0 → Type 0
-IfStoreFault ending P = ending ≡ StoreFault → P
-
--- a run over two open stores, the old one of number 0
-pub record Over (s : Input) (w : Output) (k l : Store) (ending : Ending) (t : Input) (x : Output) (k' l' : Store) : Type 0 where
-  pub number : k'.number ≡ k.number
-  pub number_new : l'.number ≡ l.number
-  pub spoken : is_bad_words ending ≡ false
-  pub ends : RunEnds s w ending (tellings_of k k' l l') t x
-  pub cause : IfStoreFault ending (Rose k.faults k'.faults ⊎ Rose l.faults l'.faults)
+-- what each ending says; a store fails the run only while it is opened
+abbrev pub RunEnds : Input → Output → Ending → Tellings → ℕ → ℕ → Input → Output → Type 0
+RunEnds s o Served c before now t x = During s o Served c before now t x
+RunEnds s o BadWords c before now t x = (t ≡ s) × (Sent o usage x ⊎ Cut o usage x) × Along Same c.old_before c.old_after × Along Same c.new_before c.new_after
+RunEnds s o ReadFault c before now t x = During s o ReadFault c before now t x
+RunEnds s o WriteFault c before now t x = During s o WriteFault c before now t x
+RunEnds s o StoreFault c before now t x = Idle s o c t x × Rose before now
+RunEnds s o Occupied c before now t x = Idle s o c t x × (NotFresh c.old_before c.old_after ⊎ NotFresh c.new_before c.new_after)
+RunEnds s o Unsupported c before now t x = During s o Unsupported c before now t x
+RunEnds s o NoMemory c before now t x = Idle s o c t x ⊎ During s o NoMemory c before now t x
 
 -- ---- over a depot
 
@@ -176,18 +151,10 @@ pub record HandedBack (d d' : Shelf) : Type 0 where
 abbrev pub depot_tellings : Shelf → Shelf → Tellings
 depot_tellings d d' = record { old_before = d.told 0; old_after = d'.told 0; new_before = d.told 1; new_after = d'.told 1 }
 
--- a session over the stores 0 and 1 of a depot
-pub record OverDepot (s : Input) (w : Output) (d : Shelf) (ending : Ending) (t : Input) (x : Output) (d' : Shelf) : Type 0 where
-  pub spoken : is_bad_words ending ≡ false
-  pub ends : RunEnds s w ending (depot_tellings d d') t x
-  pub back : HandedBack d d'
-  pub cause : IfStoreFault ending (Rose d.faults d'.faults)
-
 -- a run of the program with these words
-pub record Runs {A : Type 0} (words : List (String A)) (s : Input) (w : Output) (d : Shelf) (status : ℕ) (t : Input) (x : Output) (d' : Shelf) : Type 0 where
+pub record Runs {A : Type 0} (words : List (String A)) (s : Input) (o : Output) (d : Shelf) (status : ℕ) (t : Input) (x : Output) (d' : Shelf) : Type 0 where
   pub ending : Ending
   pub status_is : status ≡ code_of ending
   pub words_are : is_session words ≡ not (is_bad_words ending)
-  pub ends : RunEnds s w ending (depot_tellings d d') t x
+  pub ends : RunEnds s o ending (depot_tellings d d') d.faults d'.faults t x
   pub back : HandedBack d d'
-  pub cause : IfStoreFault ending (Rose d.faults d'.faults)

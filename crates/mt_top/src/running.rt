@@ -1,10 +1,12 @@
 ghost use Rattle.std.specs.Prelude.{◌≡◌, ℕ, false, true};
-ghost use Rattle.mt_top.specs.Run.{is_session, usage, code_of, look_of, ending_of, depot_ending, Looks, LooksBoth, Over, OverDepot, Runs};
+ghost use Rattle.mt_top.specs.Run.{is_session, table_name, code_of, Runs};
+ghost use Rattle.mt_top.specs.Endings.{ending_at, ending_of, depot_ending, opening_ending, Over, OverDepot};
 
-use crate::session::{SessionEnd, SessionFault, session};
-use mt_chain::{Depot, DepotFault, KeepFault, Keeper, PkFrom};
+use mt_chain::{Depot, DepotFault, Keeper};
+use mt_front::{ConnFault, End, Served, session};
 use mt_io::{Sink, Source, send};
 use mt_model::Text;
+use mt_world::{NotOpened, OpenFault, Stores, World};
 use std::alloc::Global;
 
 #[cfg(test)]
@@ -12,11 +14,18 @@ mod tests;
 
 const USAGE: &[u8] = b"usage: mtable session|drill|serve [options]\n";
 
+/// The table that is served.
+const TABLE: &str = "Orders";
+
+/// How many entries the history of a run may have.
+const HISTORY_LIMIT: u64 = 1_048_576;
+
 /// The exit status of a run.
 ///
-/// 0: the input was plain inserts to its end, and each was answered. 2: the words are no command. 3: a
-/// read failed. 4: a write failed. 5: the depot or a store failed. 6: a store has a row or is sealed
-/// at the start. 7: the input had something else than a plain insert. 9: the allocator had no memory.
+/// 0: the input was plain requests to its end, and each was answered. 2: the words are no command. 3: a
+/// read failed. 4: a write failed. 5: the depot or a store failed while the stores were opened. 6: a
+/// store has a row or is sealed at the start. 7: the input had something else than a plain request.
+/// 9: the allocator had no memory.
 #[derive(Clone, Copy, Debug, PartialEq, Eq)]
 pub struct Status {
     pub code: u8,
@@ -25,7 +34,7 @@ pub struct Status {
 /// How a run ended.
 #[derive(Clone, Copy, Debug, PartialEq, Eq)]
 pub enum Ending {
-    /// The input was plain inserts to its end.
+    /// The input was plain requests to its end.
     Served,
     /// The words are no command.
     BadWords,
@@ -33,24 +42,13 @@ pub enum Ending {
     ReadFault,
     /// A write failed.
     WriteFault,
-    /// The depot or a store failed.
+    /// The depot or a store failed while the stores were opened.
     StoreFault,
     /// A store has a row or is sealed at the start.
     Occupied,
-    /// The input had something else than a plain insert.
+    /// The input had something else than a plain request.
     Unsupported,
     /// The allocator had no memory.
-    NoMemory,
-}
-
-/// What a look at a store at the start shows.
-#[derive(Clone, Copy, Debug, PartialEq, Eq)]
-enum Look {
-    /// No row, and not sealed.
-    Fresh,
-    /// A row, or sealed.
-    Occupied,
-    Failed,
     NoMemory,
 }
 
@@ -81,52 +79,25 @@ fn asks_for_session(words: &[String]) -> bool
     }
 }
 
-fn shown(has_row: bool, sealed: bool) -> Look
-    ensures { result ≡ look_of has_row sealed }
+/// How the result of a session ends the run.
+fn ending_of(served: Result<Served, ConnFault>) -> Ending
+    ensures { result ≡ ending_of served }
 {
-    if has_row || sealed {
-        Look::Occupied
-    } else {
-        Look::Fresh
+    match served {
+        Ok(served) => ending_at(served.end),
+        Err(ConnFault::ReadFault) => Ending::ReadFault,
+        Err(ConnFault::WriteFault) => Ending::WriteFault,
+        Err(ConnFault::NoMemory) => Ending::NoMemory,
     }
 }
 
-/// Asks a store for its first partition.
-fn look_into<K: Keeper>(alloc: Global, keeper: &mut K) -> Look
-    ensures { Looks (K.state keeper.old) result (K.state keeper.new) }
+/// How the end of a session ends the run.
+fn ending_at(end: End) -> Ending
+    ensures { result ≡ ending_at end }
 {
-    let Ok(first) = Text::of(alloc, "") else {
-        return Look::NoMemory;
-    };
-    match keeper.next_partition(alloc, &PkFrom::From(first)) {
-        Ok(next) => shown(next.pk.is_some(), next.sealed),
-        Err(KeepFault::NoMemory) => Look::NoMemory,
-        Err(_) => Look::Failed,
-    }
-}
-
-/// Looks into both stores, the old one first.
-fn look_into_both<K: Keeper>(alloc: Global, old: &mut K, new: &mut K) -> Look
-    ensures { LooksBoth (K.state old.old) (K.state new.old) result (K.state old.new) (K.state new.new) }
-{
-    match look_into(alloc, old) {
-        Look::Fresh => look_into(alloc, new),
-        Look::Occupied => Look::Occupied,
-        Look::Failed => Look::Failed,
-        Look::NoMemory => Look::NoMemory,
-    }
-}
-
-fn ending_of(ended: Result<SessionEnd, SessionFault>) -> Ending
-    ensures { result ≡ ending_of ended }
-{
-    match ended {
-        Ok(SessionEnd::Input) => Ending::Served,
-        Ok(SessionEnd::BadInput) => Ending::Unsupported,
-        Err(SessionFault::ReadFault) => Ending::ReadFault,
-        Err(SessionFault::WriteFault) => Ending::WriteFault,
-        Err(SessionFault::StoreFault) => Ending::StoreFault,
-        Err(SessionFault::NoMemory) => Ending::NoMemory,
+    match end {
+        End::Input => Ending::Served,
+        End::BadInput => Ending::Unsupported,
     }
 }
 
@@ -139,23 +110,37 @@ fn ending_of_depot(fault: DepotFault) -> Ending
     }
 }
 
-/// A session over two open stores.
+fn ending_of_opening(fault: OpenFault) -> Ending
+    ensures { result ≡ opening_ending fault }
+{
+    match fault {
+        OpenFault::NotEmpty { .. } => Ending::Occupied,
+        OpenFault::StoreFault => Ending::StoreFault,
+        OpenFault::NoMemory => Ending::NoMemory,
+    }
+}
+
+/// A session over two open stores, which come back in every case.
 fn over_stores<K: Keeper, S: Source, T: Sink>(
     alloc: Global,
-    old: &mut K,
-    new: &mut K,
+    table: &Text,
+    old: K,
+    new: K,
     source: &mut S,
     sink: &mut T,
-) -> Ending
-    requires { (K.state old.old).number ≡ 0 }
-    ensures { Over (S.input source.old) (T.output sink.old) (K.state old.old) (K.state new.old) result
-        (S.input source.new) (T.output sink.new) (K.state old.new) (K.state new.new) }
+) -> (Ending, Stores<K>)
+    requires table { table.now ≡ table_name }
+    requires old { (K.state old).number ≡ 0 }
+    requires new { (K.state new).number ≡ 1 }
+    ensures { Over (S.input source.old) (T.output sink.old) (K.state old) (K.state new) result.0
+        (S.input source.new) (T.output sink.new) (K.state result.1.old) (K.state result.1.new) }
 {
-    match look_into_both(alloc, old, new) {
-        Look::Fresh => ending_of(session(alloc, old, source, sink)),
-        Look::Occupied => Ending::Occupied,
-        Look::Failed => Ending::StoreFault,
-        Look::NoMemory => Ending::NoMemory,
+    match World::open_world(alloc, old, new, HISTORY_LIMIT) {
+        Ok(mut world) => {
+            let served = session(alloc, &mut world, table, source, sink);
+            (ending_of(served), world.into_stores())
+        }
+        Err(NotOpened { fault, old, new }) => (ending_of_opening(fault), Stores { old, new }),
     }
 }
 
@@ -169,25 +154,29 @@ fn over_depot<S: Source, T: Sink, D: Depot>(
     ensures { OverDepot (S.input source.old) (T.output sink.old) (D.shelf depot.old) result
         (S.input source.new) (T.output sink.new) (D.shelf depot.new) }
 {
-    let mut old = match depot.open_store(alloc, 0) {
+    let Ok(table) = Text::of(alloc, TABLE) else {
+        return Ending::NoMemory;
+    };
+    let old = match depot.open_store(alloc, 0) {
         Ok(old) => old,
         Err(fault) => return ending_of_depot(fault),
     };
-    let mut new = match depot.open_store(alloc, 1) {
+    let new = match depot.open_store(alloc, 1) {
         Ok(new) => new,
         Err(fault) => {
             depot.take_back(old);
             return ending_of_depot(fault);
         }
     };
-    let ending = over_stores(alloc, &mut old, &mut new, source, sink);
-    depot.take_back(old);
-    depot.take_back(new);
+    let (ending, stores) = over_stores(alloc, &table, old, new, source, sink);
+    depot.take_back(stores.old);
+    depot.take_back(stores.new);
     ending
 }
 
-/// Runs the program with these words: `session` reads plain inserts from the source and writes their
-/// replies to the sink, over the stores 0 and 1 of the depot. Every store that was opened is handed
+/// Runs the program with these words: `session` reads plain requests on the table `Orders` from the
+/// source and writes their replies to the sink, over the stores 0 and 1 of the depot, which begin
+/// without rows. The history takes at most 1,048,576 entries. Every store that was opened is handed
 /// back.
 pub fn run<S: Source, T: Sink, D: Depot>(
     alloc: Global,

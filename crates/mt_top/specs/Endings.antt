@@ -1,0 +1,56 @@
+-- How a run ends over two open stores, and over a depot.
+use Rattle.std.specs.Prelude.{◌≡◌, ◌+◌, false, Result, Ok, Err}
+use Rattle.mt_io.specs.Ends.{Input, Output}
+use Rattle.mt_chain.specs.declared.depot.DepotFault.{DepotFault}
+use Rattle.mt_chain.specs.declared.depot.DepotFault.TheVariants as depot
+use Rattle.mt_chain.specs.Store.{Store}
+use Rattle.mt_chain.specs.Shelf.{Shelf}
+use Rattle.mt_world.specs.declared.opening.OpenFault.{OpenFault}
+use Rattle.mt_world.specs.declared.opening.OpenFault.TheVariants as opening
+use Rattle.mt_front.specs.declared.connection.End.TheVariants as end
+use Rattle.mt_front.specs.declared.connection.Served.{Served as ServedTo}
+use Rattle.mt_front.specs.declared.connection.End.{End}
+use Rattle.mt_front.specs.declared.connection.ConnFault.{ConnFault}
+use Rattle.mt_front.specs.declared.connection.ConnFault.TheVariants as conn
+use Rattle.mt_top.specs.declared.running.Ending.{Ending}
+use Rattle.mt_top.specs.declared.running.Ending.TheVariants.{Served, ReadFault, WriteFault, StoreFault, Occupied, Unsupported, NoMemory}
+use Rattle.mt_top.specs.Run.{is_bad_words, Tellings, RunEnds, HandedBack, depot_tellings}
+
+-- how the end of a session ends the run
+abbrev pub ending_at : End → Ending
+ending_at end.Input = Served
+ending_at end.BadInput = Unsupported
+
+-- how a session's result ends the run
+abbrev pub ending_of : Result ServedTo ConnFault → Ending
+ending_of (Ok served) = ending_at served.end
+ending_of (Err conn.ReadFault) = ReadFault
+ending_of (Err conn.WriteFault) = WriteFault
+ending_of (Err conn.NoMemory) = NoMemory
+
+-- how a depot's fault ends it
+abbrev pub depot_ending : DepotFault → Ending
+depot_ending depot.Failed = StoreFault
+depot_ending depot.NoMemory = NoMemory
+
+-- how it ends where two stores were not opened as a world
+abbrev pub opening_ending : OpenFault → Ending
+opening_ending (opening.NotEmpty store) = Occupied
+opening_ending opening.StoreFault = StoreFault
+opening_ending opening.NoMemory = NoMemory
+
+abbrev pub tellings_of : Store → Store → Store → Store → Tellings
+tellings_of k k' l l' = record { old_before = k.told; old_after = k'.told; new_before = l.told; new_after = l'.told }
+
+-- a run over two open stores
+pub record Over (s : Input) (o : Output) (k l : Store) (ending : Ending) (t : Input) (x : Output) (k' l' : Store) : Type 0 where
+  pub number : k'.number ≡ k.number
+  pub number_new : l'.number ≡ l.number
+  pub spoken : is_bad_words ending ≡ false
+  pub ends : RunEnds s o ending (tellings_of k k' l l') (k.faults + l.faults) (k'.faults + l'.faults) t x
+
+-- a run over the stores 0 and 1 of a depot
+pub record OverDepot (s : Input) (o : Output) (d : Shelf) (ending : Ending) (t : Input) (x : Output) (d' : Shelf) : Type 0 where
+  pub spoken : is_bad_words ending ≡ false
+  pub ends : RunEnds s o ending (depot_tellings d d') d.faults d'.faults t x
+  pub back : HandedBack d d'
