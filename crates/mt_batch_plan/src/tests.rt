@@ -6,7 +6,8 @@ ghost use Rattle.mt_chain.specs.Puts.{CanApply};
 ghost use Rattle.mt_rules.specs.Batches.{MayAsk};
 
 use crate::{BatchCall, BatchProgress};
-use mt_chain::{Ask, Cond, Keeper, MemKeeper, Op, Put, Puts, StoreAsk};
+use mt_chain::{Ask, Cond, Keeper, Op, Put, Puts, StoreAsk};
+use mt_mem::MemKeeper;
 use mt_model::{Hidden, Key, Name, Prop, Props, Tag, Text, Value};
 use mt_rules::{Batch, check_batch};
 use std::alloc::Global;

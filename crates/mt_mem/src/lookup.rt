@@ -15,7 +15,7 @@ use std::cmp::Ordering;
 pub type Row = (Text, StoredRow);
 
 /// How the key of a row stands to that of two texts.
-fn compare(row: &Row, pk: &Text, rk: &Text) -> Ordering
+pub fn compare(row: &Row, pk: &Text, rk: &Text) -> Ordering
     ensures { result ≡ key_cmp (entry row.now).0 (key_at pk.now rk.now) }
 {
     match row.0.cmp(pk) {

@@ -132,33 +132,6 @@ missing_end table kept s kept' t kept'' u r none f some =
     let still : head_end kept'' ≡ None = ap head_end (filled_none kept' t kept'' u f) ∙ none in
     subst (λ (k : Option (List ℕ)). IfSome k P) (sym (reached_fill kept s kept' t 0 kept'' u r f).same) (if_end P kept'' u.left (x.end refl) (no_end table kept'' still, omega (arith, some)))
 
--- the input ends before a head
-pub empty_end : (kept : List ℕ) (s : Input) (kept' : List ℕ) (t : Input) (kept'' : List ℕ) (u : Input) → Reached kept s kept' t → Fills kept' t (Ok 0) kept'' u → length kept'' ≡ 0
-    → (ahead kept s ≡ ahead kept'' u) × IfSome (ahead kept s) (λ all. all ≡ [])
-empty_end kept s kept' t kept'' u r f none =
-    let x : Filled kept' t 0 kept'' u = f.filled in
-    let same : ahead kept s ≡ ahead kept'' u = (reached_fill kept s kept' t 0 kept'' u r f).same in
-    let P : List ℕ → Type 0 = λ (all : List ℕ). all ≡ [] in
-    (same, subst (λ (k : Option (List ℕ)). IfSome k P) (sym same) (if_end P kept'' u.left (x.end refl) (none_more kept'' none)))
-
--- the input ends before n bytes
-pub short_end : (kept : List ℕ) (s : Input) (kept' : List ℕ) (t : Input) (n : ℕ) (kept'' : List ℕ) (u : Input) → Reached kept s kept' t → length kept' < n → Fills kept' t (Ok 0) kept'' u → IfSome s.left (λ xs. length (kept ++ xs) < n)
-short_end kept s kept' t n kept'' u r short f =
-    let x : Filled kept' t 0 kept'' u = f.filled in
-    let P : List ℕ → Type 0 = λ (all : List ℕ). length all < n in
-    let less : length kept'' < n = subst P (sym (filled_none kept' t kept'' u f)) short in
-    unbefore kept s.left n (subst (λ (k : Option (List ℕ)). IfSome k P) (sym (reached_fill kept s kept' t 0 kept'' u r f).same) (if_end P kept'' u.left (x.end refl) less))
-
-pub short_broke : (kept : List ℕ) (s : Input) (kept' : List ℕ) (t : Input) (n : ℕ) (kept'' : List ℕ) (u : Input) → Reached kept s kept' t → length kept' < n → Fills kept' t (Err Failed) kept'' u → FellShort kept s n kept'' u
-short_broke kept s kept' t n kept'' u r short f =
-    let x : FilledAs kept' t (Err Failed) kept'' u = f.filled in
-    record {
-      more = r.more;
-      read_is = r.same ∙ ap (before_known kept') (sym x.1) ∙ ap (λ (v : List ℕ). before_known v u.left) r.grew;
-      short = subst (λ (v : List ℕ). length v < n) r.grew short;
-      cause = rose_after s.faults t.faults u.faults r.later.faults x.2;
-    }
-
 -- a head that is no plain request's
 pub other_head : (table kept : List ℕ) (s : Input) (kept' : List ℕ) (t : Input) (n : ℕ) → Reached kept s kept' t → EndsAt kept' n → HasNoHead table (take n kept') → IsUnsupported table (ahead kept s)
 other_head table kept s kept' t n r e none =

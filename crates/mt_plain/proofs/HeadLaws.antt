@@ -1,5 +1,5 @@
 -- A head is its first line, its fields and the empty line, and what is read of them is read of it.
-use Rattle.std.proofs.Common.{◌≡◌, ℕ, ◌<◌, ◌≤◌, Bool, List, ◌++◌, length, Option, Some, None, Bor, refl, sym, ap, ◌∙◌, arith, append_assoc, codes, subst}
+use Rattle.std.proofs.Common.{◌≡◌, ℕ, ◌≤◌, Bool, List, ◌++◌, length, Option, Some, None, Bor, refl, sym, ap, ◌∙◌, append_assoc, codes, subst}
 use Rattle.std.specs.Prelude.{unwrap_or}
 use Rattle.mt_plain.specs.declared.request.Route.{Route}
 use Rattle.mt_plain.specs.declared.request.IfMatch.{IfMatch}
@@ -8,7 +8,7 @@ use Rattle.mt_plain.specs.declared.head.RequestLine.{RequestLine}
 use Rattle.mt_plain.specs.Heads.{Field, Head, IsHead, IsFramed, IsLength, is_same, field_lines, line_end, fields_named, print_head}
 use Rattle.mt_plain.specs.Requests.{IsRoute, SaysMatch, IsMatch, prefers_no_content}
 use Rattle.mt_plain.specs.Fields.{Noted, SizedAs, FirstIs, FirstSays, first_prefers, HasSection, HasNoSection, print_section}
-use Rattle.mt_plain.specs.Openings.{print_line, StandsLine, HasLine, HasNoLine, HasHead, HasNoHead}
+use Rattle.mt_plain.specs.Openings.{print_line, StandsLine, HasLine, HasHead, HasNoHead}
 use Rattle.mt_plain.proofs.LineLaws.{line_unique}
 
 pub head_prints : (h : Head) → print_head h ≡ print_line h.method h.target ++ print_section h.fields
@@ -18,14 +18,6 @@ pub line_of : (bytes : List ℕ) (h : Head) → IsHead h → bytes ≡ print_hea
 line_of bytes h is e = record { method = is.method; target = is.target; whole = e ∙ head_prints h }
 
 -- ---- no head
-
-pub no_long : (table bytes : List ℕ) → 16384 < length bytes → HasNoHead table bytes
-no_long table bytes long o h =
-    let short : length bytes ≤ 16384 = subst (λ (x : List ℕ). length x ≤ 16384) (sym h.whole) h.opening.head.short in
-    omega (arith, long, short)
-
-pub no_line : (table bytes : List ℕ) → HasNoLine bytes → HasNoHead table bytes
-no_line table bytes none o h = none h.head.method h.head.target (print_section h.head.fields) (line_of bytes h.head h.opening.head h.whole)
 
 pub no_section : (table bytes : List ℕ) (l : RequestLine) → HasLine bytes l → HasNoSection l.rest.now → HasNoHead table bytes
 no_section table bytes l has none o h =

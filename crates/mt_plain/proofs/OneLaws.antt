@@ -1,5 +1,5 @@
 -- What stands at the front of some bytes is one request, and is read in one way.
-use Rattle.std.proofs.Common.{◌≡◌, ℕ, suc, ◌+◌, ◌<◌, ◌≤◌, ◌^◌, Bool, true, List, [], ◌∷◌, ◌++◌, length, take, drop, get_or, refl, sym, ap, ◌∙◌, subst, arith, rules, codes, decimal}
+use Rattle.std.proofs.Common.{◌≡◌, ℕ, suc, ◌<◌, ◌≤◌, ◌^◌, Bool, true, List, [], ◌∷◌, ◌++◌, length, take, drop, get_or, refl, sym, ap, ◌∙◌, subst, arith, rules, codes, decimal}
 use Rattle.std.specs.Prelude.{◌&&◌}
 use Rattle.std.specs.List.{list_all}
 use Rattle.std.proofs.Math.Seq.{take-append_seam, drop-append_seam}
@@ -15,7 +15,7 @@ use Rattle.mt_plain.specs.declared.request.IfMatch.{IfMatch}
 use Rattle.mt_plain.specs.declared.request.IfMatch.TheVariants.{Absent, Any, Is, Unreadable}
 use Rattle.mt_plain.specs.declared.request.PlainRequest.{PlainRequest}
 use Rattle.mt_plain.specs.Heads.{Field, Head, is_digit, fields_named, print_head}
-use Rattle.mt_plain.specs.Requests.{IsRoute, SaysMatch, IsMatch, prefers_no_content, Request, IsPlain, print_request}
+use Rattle.mt_plain.specs.Requests.{IsRoute, SaysMatch, IsMatch, Request, IsPlain, print_request}
 use Rattle.mt_plain.specs.Targets.{print_keys}
 use Rattle.mt_plain.proofs.RunLaws.{run_unique}
 use Rattle.mt_plain.proofs.TargetLaws.{keys_of, keys_unique, same_rest, post_is_no_action, action_unique}

@@ -8,7 +8,7 @@ use Rattle.std.proofs.lemmas.List.Elements.{All-head, All-push, filter-append, A
 use Rattle.std.proofs.Math.Seq.{drop-append_seam}
 use Rattle.mt_plain.specs.declared.fields.Line.{Line}
 use Rattle.mt_plain.specs.declared.fields.Said.{Said}
-use Rattle.mt_plain.specs.declared.fields.Kind.TheVariants.{Plain, Length, Match, Prefer, Refused}
+use Rattle.mt_plain.specs.declared.fields.Kind.TheVariants.{Length, Match, Prefer, Refused}
 use Rattle.mt_plain.specs.Heads.{Field, IsField, IsFramed, IsLength, is_same, fields_named, field_line, field_lines, line_end}
 use Rattle.mt_plain.specs.Fields.{field_of, HasField, HasNoField, is_foreign, is_sizing, Announces, IsKind, IsSection, print_section, HasNoSection, HasSection, SizedAs, FirstIs, Noted, Notes, Walked}
 use Rattle.mt_plain.proofs.FieldLaws.{field_unique, section_begins}
@@ -137,10 +137,6 @@ first_with : (name : List ℕ) (fs : List Field) (g : Field) (first : Option (Bo
 first_with name fs g None value e v none = (g, [], named_at name fs g [] e ∙ ap (λ (xs : List Field). xs ++ g ∷ []) none, v)
 first_with name fs g (Some w) value e v s = (s.0, s.1 ++ g ∷ [], named_at name fs g [] e ∙ ap (λ (xs : List Field). xs ++ g ∷ []) s.2, s.3)
 
-pub note_plain : (said : Said) (g : Field) → IsKind g.name g.value Plain → Notes said g (Some said)
-note_plain said g kind fs n =
-    noted_more fs said said g n kind.0 (sized_beside fs g said.length kind.1 n.sized) (first_beside (codes "If-Match") fs g said.if_match kind.2 n.matched) (first_beside (codes "Prefer") fs g said.prefer kind.3 n.preferred)
-
 pub note_length : (said : Said) (g : Field) (k : ℕ) → said.length ≡ None → IsKind g.name g.value (Length k) → Notes said g (Some (record { length = Some k; if_match = said.if_match; prefer = said.prefer }))
 note_length said g k unsized kind fs n =
     let none : fields_named (codes "Content-Length") fs ≡ [] = subst (SizedAs (fields_named (codes "Content-Length") fs)) unsized n.sized in
@@ -160,13 +156,6 @@ note_prefer said g value v kind fs n =
     noted_more fs said (record { length = said.length; if_match = said.if_match; prefer = option_or said.prefer (Some value) }) g n kind.0 (sized_beside fs g said.length kind.1 n.sized)
     (first_beside (codes "If-Match") fs g said.if_match kind.2 n.matched)
     (first_with (codes "Prefer") fs g said.prefer value kind.3 v n.preferred)
-
-pub note_refused : (said : Said) (g : Field) → IsKind g.name g.value Refused → Notes said g None
-note_refused said g kind fs noted more n framed = refused_not_framed fs g more n framed kind
-
-pub note_twice : (said : Said) (m : ℕ) (g : Field) (k : ℕ) → said.length ≡ Some m → IsKind g.name g.value (Length k) → Notes said g None
-note_twice said m g k sized kind fs noted more n framed =
-    twice_not_framed fs m g more n (subst (SizedAs (fields_named (codes "Content-Length") fs)) sized noted.sized) framed kind.1
 
 -- ---- the walk over the fields
 

@@ -3,6 +3,9 @@ ghost use Rattle.std.specs.Prelude.{◌≡◌, ◌≤◌, ◌+◌, ◌++◌, ℕ
 ghost use Rattle.mt_plain.specs.Reading.{ReadsRequest};
 ghost use Rattle.mt_plain.specs.Filling.{Fills, ReadsHead, Waits, TakesAs, IsOpened};
 
+#[cfg(test)]
+mod tests;
+
 use crate::ends::head_end;
 use crate::head::{Opening, parse_head};
 use crate::request::PlainRequest;

@@ -1,31 +1,28 @@
 -- One entry more: the history stays legal, and what it makes of the table.
-use Rattle.std.proofs.Common.{◌≡◌, ◌≢◌, ◌∙◌, ◌⊎◌, ℕ, zero, suc, ◌+◌, ◌-◌, ◌^◌, ◌≤◌, ◌<◌, Bool, true, false, cond, List, [], ◌∷◌, ◌++◌, length, refl, sym, ap, subst, arith, inl, inr, All, Contains, length-append, Option, Some, None}
-use Rattle.std.specs.Prelude.{filter, nat_le, min, option_map, MatchOption}
-use Rattle.std.specs.List.{zip, last_or, AllPairs}
+use Rattle.std.proofs.Common.{◌≡◌, ◌∙◌, ◌⊎◌, ℕ, ◌+◌, ◌-◌, ◌^◌, ◌≤◌, Bool, true, false, cond, List, [], ◌∷◌, ◌++◌, length, refl, sym, ap, subst, arith, inl, inr, All, length-append, Option, Some, None}
+use Rattle.std.specs.Prelude.{filter, nat_le, option_map, MatchOption}
+use Rattle.std.specs.List.{zip, last_or}
 use Rattle.std.proofs.lemmas.Bool.Decides.{nat_tests}
 use Rattle.std.proofs.lemmas.List.{append-nil}
 use Rattle.std.proofs.lemmas.List.Elements.{All-append, filter-append}
 use Rattle.std.proofs.lemmas.List.Concat.{flat_map-append}
 use Rattle.mt_model.specs.declared.tag.Tag.{Tag}
 use Rattle.mt_chain.specs.declared.op.Op.{Op}
-use Rattle.mt_chain.specs.declared.op.Refusal.{Refusal}
 use Rattle.mt_chain.specs.Table.{Table, IsSameTable, table_of}
-use Rattle.mt_chain.specs.Effect.{op_key}
 use Rattle.mt_chain.specs.Batch.{refusal_of, batch_applied, op_at, row_after, Tagged}
 use Rattle.mt_chain.specs.Store.{Rose}
 use Rattle.mt_chain.proofs.BatchLaws.{same_refusal}
 use Rattle.mt_history.specs.declared.entry.What.{What}
-use Rattle.mt_history.specs.declared.entry.What.TheVariants as what
 use Rattle.mt_history.specs.declared.entry.Entry.{Entry}
-use Rattle.mt_history.specs.Window.{Window, after_entry, table_at_end, with_one}
+use Rattle.mt_history.specs.Window.{after_entry, table_at_end, with_one}
 use Rattle.mt_history.specs.Replies.{rows_of}
-use Rattle.mt_history.specs.Legal.{IsLegal, IsLegalNext, IsNextNumber, IsTrueAtEnd, IsGone, HasTag, IsNew, numbers_of, tags_written, entry_tags, all_tags}
+use Rattle.mt_history.specs.Legal.{IsLegal, IsNextNumber, IsTrueAtEnd, IsGone, HasTag, numbers_of, entry_tags, all_tags}
 use Rattle.mt_history.proofs.WindowLaws.{replays_join, legal_grows}
 use Rattle.mt_meta.specs.Logical.{Pair}
 use Rattle.mt_meta.specs.Sound.{IsSound}
 use Rattle.mt_meta.specs.Steps.{logical_table}
 use Rattle.mt_batch_plan.specs.BatchSteps.{IsAtUseOld}
-use Rattle.mt_world.specs.Worlds.{WorldState, IsReplayed, IsGiven, AreCounted, window_of, table_now, next_number, is_fault, faults_in, after_last}
+use Rattle.mt_world.specs.Worlds.{WorldState, IsReplayed, IsGiven, window_of, table_now, is_fault, faults_in, after_last}
 use Rattle.mt_world.specs.Turns.{IsSameWorld, entry_of}
 
 -- ---- numbers

@@ -1,6 +1,6 @@
 -- Turns one after the other, until a call ends.
-use Rattle.std.proofs.Common.{◌≡◌, ◌≢◌, ◌∙◌, ◌⊎◌, ℕ, zero, suc, ◌+◌, ◌-◌, ◌^◌, ◌≤◌, ◌<◌, Bool, true, false, cond, not, ◌&&◌, List, [], ◌∷◌, ◌++◌, length, nat_lt, refl, sym, ap, subst, arith, inl, inr, Option, Some, None, Result, Ok, Err}
-use Rattle.std.specs.Prelude.{min, nat_le, is_some}
+use Rattle.std.proofs.Common.{◌≡◌, ◌∙◌, ℕ, zero, suc, ◌+◌, ◌-◌, ◌^◌, ◌≤◌, ◌<◌, true, not, ◌&&◌, List, length, nat_lt, refl, sym, ap, subst, arith, inl, inr, Option, Some, None, Result, Ok, Err}
+use Rattle.std.specs.Prelude.{nat_le, is_some}
 use Rattle.mt_model.specs.declared.tag.Tag.{Tag}
 use Rattle.mt_chain.specs.declared.op.Op.{Op}
 use Rattle.mt_chain.specs.declared.ask.Side.{Side}
@@ -12,12 +12,9 @@ use Rattle.mt_chain.specs.declared.ask.StoreReply.TheVariants as reply
 use Rattle.mt_chain.specs.StoreCall.{Contents}
 use Rattle.mt_chain.specs.Store.{Store, Rose}
 use Rattle.mt_chain.specs.Batch.{batch_weight}
-use Rattle.mt_rules.specs.Batches.{IsBatch}
-use Rattle.mt_history.specs.Kept.{Kept, has_room}
 use Rattle.mt_history.specs.Weight.{total_weight}
 use Rattle.mt_history.specs.Window.{table_at_end}
 use Rattle.mt_history.specs.Replies.{Replies}
-use Rattle.mt_meta.specs.Logical.{Pair}
 use Rattle.mt_batch_plan.specs.declared.place.Place.{Place}
 use Rattle.mt_batch_plan.specs.declared.place.Place.TheVariants.{ReadOld, WriteOld, BirthOld}
 use Rattle.mt_batch_plan.specs.declared.call.BatchProgress.{BatchProgress}
@@ -25,17 +22,16 @@ use Rattle.mt_batch_plan.specs.declared.call.BatchProgress.TheVariants as batch
 use Rattle.mt_batch_plan.specs.Calls.{Call, Asks, Absorbs, is_write}
 use Rattle.mt_batch_plan.specs.BatchSteps.{StandsOn}
 use Rattle.mt_batch_plan.proofs.BatchLaw.{read_stands, write_done}
-use Rattle.mt_world.specs.declared.actor.ClientCall.{ClientCall}
 use Rattle.mt_world.specs.declared.actor.ClientCall.TheVariants as client
 use Rattle.mt_world.specs.declared.actor.Actor.{Actor}
 use Rattle.mt_world.specs.declared.actor.Actor.TheVariants.{Client}
 use Rattle.mt_world.specs.declared.actor.Answer.{Answer}
 use Rattle.mt_world.specs.declared.actor.Progress.{Progress}
-use Rattle.mt_world.specs.declared.actor.Progress.TheVariants.{More, Done}
+use Rattle.mt_world.specs.declared.actor.Progress.TheVariants.{More}
 use Rattle.mt_world.specs.declared.actor.TurnFault.{TurnFault}
 use Rattle.mt_world.specs.declared.actor.TurnFault.TheVariants.{StoreFault, HistoryFull, NoMemory}
 use Rattle.mt_world.specs.Worlds.{WorldState, pair_of, ForPair, Tells, IsReplayed, IsWorld, table_now}
-use Rattle.mt_world.specs.Turns.{CanStep, ActorFits, Knows, progress_of, batch_after, BatchMoves, Stage, stage_of, CallsOn, OneCall, NoCall, Moves, is_full, answered, asked_by, what_of, entries_with, reply_of, RepliesAt, IsSameWorld, Turns, EitherRose, last_turn, Finishes, Answers, IsAtBegin, EndsCall}
+use Rattle.mt_world.specs.Turns.{CanStep, ActorFits, progress_of, batch_after, BatchMoves, Stage, stage_of, CallsOn, OneCall, Moves, is_full, answered, asked_by, what_of, entries_with, reply_of, RepliesAt, IsSameWorld, Turns, EitherRose, last_turn, Finishes, Answers, IsAtBegin, EndsCall}
 use Rattle.mt_world.proofs.PairLaws.{for_pair, at_pair, same_pair, before, failed_rose}
 use Rattle.mt_world.proofs.EntryLaws.{window_stays}
 use Rattle.mt_world.proofs.TurnLaws.{moved}

@@ -1,7 +1,6 @@
 -- Two stores without rows are a world without history.
-use Rattle.std.proofs.Common.{◌≡◌, ◌≢◌, ◌∙◌, ◌⊎◌, ℕ, ◌+◌, ◌-◌, ◌^◌, ◌≤◌, Bool, true, false, cond, List, [], ◌∷◌, refl, sym, ap, subst, arith, inl, inr, bytes_eq, ◌||◌, All, IsTrue, Option, Some, None}
+use Rattle.std.proofs.Common.{◌≡◌, ◌≢◌, ◌∙◌, ℕ, Bool, true, false, cond, List, [], ◌∷◌, refl, sym, ap, subst, arith, inl, bytes_eq, ◌||◌, All, IsTrue, Option, Some, None}
 use Rattle.std.specs.Prelude.{option_map, is_none, not, ◌&&◌, Ok}
-use Rattle.mt_model.specs.declared.tag.Tag.{Tag}
 use Rattle.mt_chain.specs.declared.query.PkFrom.{PkFrom}
 use Rattle.mt_chain.specs.declared.query.PkFrom.TheVariants as start
 use Rattle.mt_chain.specs.declared.query.Next.{Next}
@@ -18,13 +17,10 @@ use Rattle.mt_history.proofs.WindowLaws.{nothing_is_legal}
 use Rattle.mt_meta.specs.Markers.{marker_key}
 use Rattle.mt_meta.specs.Logical.{Pair}
 use Rattle.mt_meta.specs.Sound.{IsSound}
-use Rattle.mt_meta.specs.Steps.{logical_table, as_row}
-use Rattle.mt_batch_plan.specs.BatchSteps.{IsAtUseOld}
-use Rattle.mt_world.specs.Worlds.{WorldState, ForPair, IsReplayed, IsGiven, AreCounted, IsWorld, window_of, pair_of, faults_in}
+use Rattle.mt_meta.specs.Steps.{as_row}
+use Rattle.mt_world.specs.Worlds.{WorldState, IsReplayed, IsGiven, IsWorld, window_of, pair_of, faults_in}
 use Rattle.mt_world.specs.Opening.{IsFresh, Stays, shows_nothing, Looks}
-use Rattle.mt_world.specs.Turns.{Stage}
 use Rattle.mt_world.proofs.PairLaws.{for_pair, told_before, same_onward}
-use Rattle.mt_world.proofs.TurnLaws.{world_of}
 use Rattle.mt_world.proofs.EntryLaws.{no_tags}
 
 -- ---- one store

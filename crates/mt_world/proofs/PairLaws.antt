@@ -1,6 +1,6 @@
 -- From stores that may stop telling to a pair that is told.
-use Rattle.std.proofs.Common.{◌≡◌, ◌∙◌, ◌⊎◌, ℕ, ◌≤◌, ◌+◌, ◌-◌, ◌^◌, true, refl, sym, ap, subst, arith, inl, inr, Option, Some, None, Result, Ok, Err}
-use Rattle.std.specs.Prelude.{IfSome, is_some, min}
+use Rattle.std.proofs.Common.{◌≡◌, ◌∙◌, ◌⊎◌, ◌≤◌, true, refl, sym, ap, subst, arith, inl, inr, Option, Some, None, Result, Ok, Err}
+use Rattle.std.specs.Prelude.{IfSome, is_some}
 use Rattle.mt_chain.specs.declared.ask.Side.{Side}
 use Rattle.mt_chain.specs.declared.ask.Side.TheVariants.{Old, New}
 use Rattle.mt_chain.specs.declared.ask.Ask.{Ask}
@@ -12,7 +12,7 @@ use Rattle.mt_chain.specs.StoreCall.{Contents}
 use Rattle.mt_chain.specs.Store.{Store, Rose, Onward, Same}
 use Rattle.mt_chain.specs.Asks.{Means}
 use Rattle.mt_meta.specs.Logical.{Pair}
-use Rattle.mt_meta.specs.Steps.{PairMeans, MeansOn}
+use Rattle.mt_meta.specs.Steps.{PairMeans}
 use Rattle.mt_world.specs.Worlds.{WorldState, pair_of, ForPair, Tells}
 use Rattle.mt_world.specs.Turns.{IsSameWorld, CallsOn}
 

@@ -1,9 +1,6 @@
 -- Entries are replayed one after the other.
-use Rattle.std.proofs.Common.{◌≡◌, ◌∙◌, ℕ, ◌+◌, ◌<◌, List, [], ◌∷◌, ◌++◌, length, take, get_or, refl, sym, ap, subst, arith, append_assoc, IsTrue, None}
+use Rattle.std.proofs.Common.{◌≡◌, ◌∙◌, ℕ, ◌+◌, ◌<◌, List, [], ◌∷◌, ◌++◌, length, take, get_or, refl, sym, ap, subst, append_assoc, IsTrue}
 use Rattle.std.proofs.lemmas.List.{take_more}
-use Rattle.mt_model.specs.declared.entity.Entity.{Entity}
-use Rattle.mt_model.specs.declared.tag.Tag.{Tag}
-use Rattle.mt_chain.specs.declared.op.Op.{Op}
 use Rattle.mt_chain.specs.Rows.{Rows, are_rising}
 use Rattle.mt_chain.specs.Table.{Table, IsSameTable, table_of}
 use Rattle.mt_history.specs.declared.entry.What.{What}
@@ -13,7 +10,7 @@ use Rattle.mt_history.specs.Window.{replay, after_entry, begun}
 use Rattle.mt_history.specs.Replies.{rows_of}
 use Rattle.mt_history.specs.Legal.{IsLegal, IsTrueAtEnd}
 use Rattle.mt_history.proofs.WindowLaws.{replays_join}
-use Rattle.mt_world.specs.Worlds.{WorldState, ForPair, IsReplayed, IsWorld, window_of, table_now}
+use Rattle.mt_world.specs.Worlds.{WorldState, IsReplayed, IsWorld, window_of, table_now}
 use Rattle.mt_world.specs.Replays.{Accepts, AllAccepted, IsAfter, IsReplay, LeavesRows, CountsRows}
 use Rattle.mt_world.proofs.PairLaws.{map_pair}
 use Rattle.mt_world.proofs.EntryLaws.{refusal_same, applied_same}

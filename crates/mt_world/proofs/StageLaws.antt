@@ -1,5 +1,5 @@
 -- What a batch call makes of a reply, and the entry of its answer.
-use Rattle.std.proofs.Common.{◌≡◌, ◌∙◌, ℕ, suc, ◌+◌, ◌-◌, ◌≤◌, ◌<◌, ◌^◌, Bool, true, false, cond, ◌&&◌, List, [], ◌∷◌, ◌++◌, length, nat_lt, refl, sym, ap, subst, inr, arith, IsTrue, Option, Some, None, Result, Ok, Err}
+use Rattle.std.proofs.Common.{◌≡◌, ◌∙◌, ℕ, suc, ◌+◌, ◌-◌, ◌<◌, ◌^◌, Bool, true, false, ◌&&◌, List, [], ◌∷◌, ◌++◌, length, nat_lt, refl, sym, ap, subst, inr, arith, IsTrue, Option, Some, None, Result, Ok, Err}
 use Rattle.std.specs.Prelude.{nat_le, min, not}
 use Rattle.std.proofs.lemmas.Bool.Decides.{nat_tests}
 use Rattle.mt_model.specs.declared.text.NoMemory.{NoMemory as NoMemoryOf}
@@ -22,7 +22,7 @@ use Rattle.mt_chain.specs.Store.{Onward, Same}
 use Rattle.mt_chain.specs.Asks.{Means}
 use Rattle.mt_rules.specs.Batches.{partition_of}
 use Rattle.mt_chain.specs.Table.{Table}
-use Rattle.mt_chain.specs.Batch.{batch_weight, batch_size, tags_answered, refusal_of}
+use Rattle.mt_chain.specs.Batch.{batch_weight, tags_answered, refusal_of}
 use Rattle.mt_history.specs.declared.entry.What.TheVariants as what
 use Rattle.mt_history.specs.Kept.{Kept, has_room}
 use Rattle.mt_history.specs.Weight.{total_weight}
@@ -34,13 +34,13 @@ use Rattle.mt_batch_plan.specs.declared.place.Place.{Place}
 use Rattle.mt_batch_plan.specs.declared.place.Place.TheVariants.{ReadOld, WriteOld, BirthOld}
 use Rattle.mt_batch_plan.specs.declared.call.BatchProgress.{BatchProgress}
 use Rattle.mt_batch_plan.specs.declared.call.BatchProgress.TheVariants as batch
-use Rattle.mt_batch_plan.specs.Calls.{Call, CallFits, Asks, reads_old, Absorbs, Writes, AnswersTags, saw, saw_old, marker_says, decide, decided, table_seen, is_write}
+use Rattle.mt_batch_plan.specs.Calls.{Call, CallFits, Asks, reads_old, Absorbs, AnswersTags, saw, saw_old, marker_says, decided, table_seen, is_write}
 use Rattle.mt_world.specs.declared.actor.ClientCall.{ClientCall}
 use Rattle.mt_world.specs.declared.actor.ClientCall.TheVariants as client
 use Rattle.mt_world.specs.declared.actor.Actor.TheVariants.{Client}
 use Rattle.mt_world.specs.declared.actor.Answer.TheVariants.{Written, Refused}
 use Rattle.mt_world.specs.declared.actor.Progress.{Progress}
-use Rattle.mt_world.specs.declared.actor.Progress.TheVariants.{More, Done}
+use Rattle.mt_world.specs.declared.actor.Progress.TheVariants.{Done}
 use Rattle.mt_world.specs.declared.actor.TurnFault.{TurnFault}
 use Rattle.mt_world.specs.declared.actor.TurnFault.TheVariants.{StoreFault, HistoryFull, NoMemory}
 use Rattle.mt_world.specs.Worlds.{next_number}

@@ -1,54 +1,43 @@
 -- A turn keeps the world, and does what it is to do.
-use Rattle.std.proofs.Common.{◌≡◌, ◌≢◌, ◌∙◌, ◌⊎◌, ℕ, suc, ◌+◌, ◌-◌, ◌^◌, ◌≤◌, ◌<◌, Bool, true, false, cond, List, [], ◌∷◌, ◌++◌, length, refl, sym, ap, subst, arith, inl, inr, All, Contains, IsTrue, Option, Some, None, Result, Ok, Err}
-use Rattle.std.specs.Prelude.{IsSome, is_some}
+use Rattle.std.proofs.Common.{◌≡◌, ◌≢◌, ◌∙◌, ◌⊎◌, ℕ, ◌+◌, ◌-◌, ◌^◌, ◌≤◌, ◌<◌, Bool, true, false, List, [], ◌∷◌, ◌++◌, refl, sym, ap, subst, arith, inl, inr, All, Contains, IsTrue, Some, Result, Ok, Err}
+use Rattle.std.specs.Prelude.{IsSome}
 use Rattle.std.specs.List.{zip}
 use Rattle.mt_model.specs.declared.entity.Entity.{Entity}
 use Rattle.mt_model.specs.declared.tag.Tag.{Tag}
 use Rattle.mt_chain.specs.declared.op.Op.{Op}
-use Rattle.mt_chain.specs.declared.op.Refusal.{Refusal}
 use Rattle.mt_chain.specs.declared.row.StoredRow.{StoredRow}
 use Rattle.mt_chain.specs.declared.ask.StoreAsk.{StoreAsk}
 use Rattle.mt_chain.specs.declared.ask.StoreReply.{StoreReply}
-use Rattle.mt_chain.specs.declared.ask.StoreReply.TheVariants as reply
-use Rattle.mt_chain.specs.declared.ask.CallFault.{CallFault}
 use Rattle.mt_chain.specs.declared.ask.CallFault.TheVariants as call_fault
 use Rattle.mt_chain.specs.Rows.{are_rising}
 use Rattle.mt_chain.specs.StoreCall.{Contents}
-use Rattle.mt_chain.specs.Store.{Store, Onward, Same, Rose}
-use Rattle.mt_chain.specs.Table.{Table, IsSameTable, table_of}
-use Rattle.mt_chain.specs.Batch.{refusal_of, batch_applied}
-use Rattle.mt_rules.specs.Batches.{IsBatch, partition_of}
-use Rattle.mt_history.specs.declared.entry.What.{What}
+use Rattle.mt_chain.specs.Store.{Rose}
+use Rattle.mt_chain.specs.Batch.{refusal_of}
+use Rattle.mt_rules.specs.Batches.{partition_of}
 use Rattle.mt_history.specs.declared.entry.What.TheVariants as what
 use Rattle.mt_history.specs.declared.entry.Entry.{Entry}
 use Rattle.mt_history.specs.declared.model.Reply.TheVariants as told
-use Rattle.mt_history.specs.Window.{Window, table_at_end}
 use Rattle.mt_history.specs.Replies.{rows_of, refusal_reply}
-use Rattle.mt_history.specs.Legal.{IsTrueAtEnd, IsGone, HasTag, IsNew, tags_written, all_tags}
+use Rattle.mt_history.specs.Legal.{IsTrueAtEnd, all_tags}
 use Rattle.mt_meta.specs.Logical.{Pair, NoOld, AtUseOld, old_state_at}
-use Rattle.mt_meta.specs.Sound.{IsSound}
 use Rattle.mt_meta.specs.Facts.{Fact, InOld, RowIs, Kept, Begun, There, Turned, Closed, Moved, Epoch, Clean, Swept, Retired, Holds, Apart, ApartFrom, Grows}
-use Rattle.mt_meta.specs.Steps.{logical_table, AllHold, PairMeans, row_facts}
+use Rattle.mt_meta.specs.Steps.{logical_table, AllHold, row_facts}
 use Rattle.mt_meta.proofs.Growth.{fact_kept}
 use Rattle.mt_batch_plan.specs.declared.place.Place.{Place}
 use Rattle.mt_batch_plan.specs.declared.place.Place.TheVariants.{ReadOld, WriteOld, BirthOld}
 use Rattle.mt_batch_plan.specs.declared.call.BatchProgress.{BatchProgress}
 use Rattle.mt_batch_plan.specs.declared.call.BatchProgress.TheVariants as batch
 use Rattle.mt_batch_plan.specs.Calls.{Call, CallFits, Asks, Absorbs, place_facts, call_facts}
-use Rattle.mt_batch_plan.specs.BatchSteps.{BatchStep, Does, IsWritten, IsFresh, IsAtUseOld, StaysInOld}
+use Rattle.mt_batch_plan.specs.BatchSteps.{BatchStep, IsWritten, IsFresh, IsAtUseOld, StaysInOld}
 use Rattle.mt_batch_plan.proofs.BatchLaw.{batch_law}
-use Rattle.mt_world.specs.declared.actor.ClientCall.{ClientCall}
 use Rattle.mt_world.specs.declared.actor.ClientCall.TheVariants as client
 use Rattle.mt_world.specs.declared.actor.Actor.{Actor}
 use Rattle.mt_world.specs.declared.actor.Actor.TheVariants.{Client}
-use Rattle.mt_world.specs.declared.actor.Answer.{Answer}
-use Rattle.mt_world.specs.declared.actor.Answer.TheVariants.{Written, Refused}
 use Rattle.mt_world.specs.declared.actor.Progress.{Progress}
-use Rattle.mt_world.specs.declared.actor.Progress.TheVariants.{More, Done}
 use Rattle.mt_world.specs.declared.actor.TurnFault.{TurnFault}
 use Rattle.mt_world.specs.declared.actor.TurnFault.TheVariants.{StoreFault, HistoryFull, NoMemory}
-use Rattle.mt_world.specs.Worlds.{WorldState, pair_of, ForPair, Tells, window_of, table_now, next_number, is_fault, faults_in, IsGiven, IsReplayed, AreCounted, IsWorld}
-use Rattle.mt_world.specs.Turns.{CanStep, actor_facts, Knows, ActorFits, ended, progress_of, batch_after, BatchMoves, Stage, stage_of, OneCall, NoCall, CalledInVain, Moves, answered, asked_by, what_of, entry_of, entries_with, RepliesAt, TakesTurn, StandsBeside, KeepsApart, IsSameWorld, Turns}
+use Rattle.mt_world.specs.Worlds.{WorldState, pair_of, ForPair, window_of, table_now, faults_in, IsGiven, IsReplayed, AreCounted, IsWorld}
+use Rattle.mt_world.specs.Turns.{actor_facts, Knows, ended, progress_of, batch_after, BatchMoves, Stage, stage_of, OneCall, NoCall, CalledInVain, Moves, what_of, entry_of, entries_with, RepliesAt, TakesTurn, KeepsApart, IsSameWorld, Turns}
 use Rattle.mt_world.proofs.PairLaws.{for_pair, at_pair, map_pair, same_pair, IsQuiet, carried, quiet_tells, Before, before, called_tells, failed_quiet, failed_rose, IsCalled, called, not_called, stays_same}
 use Rattle.mt_world.proofs.EntryLaws.{replay_stays, replay_grows, Grown, still_grown, refusal_same, applied_same, gone_same, faults_more, counts_on, counts_rise}
 

@@ -1,5 +1,5 @@
 -- A history with the number of each caller's next entry.
-use Rattle.std.specs.Prelude.{◌≡◌, ℕ, ◌≤◌, IsTrue, All, IsSome, List, [], ◌∷◌, ◌++◌, length, Option}
+use Rattle.std.specs.Prelude.{◌≡◌, ℕ, ◌≤◌, All, IsSome, List, length, Option}
 use Rattle.std.specs.Ordering.{nat_cmp, is_eq}
 use Rattle.std.specs.Map.{lookup, count_at}
 use Rattle.mt_history.specs.declared.entry.What.{What}

@@ -1,5 +1,5 @@
 -- Opening two stores as a world.
-use Rattle.std.specs.Prelude.{◌≡◌, ◌⊎◌, ℕ, ◌≤◌, Bool, true, false, not, ◌&&◌, is_none, List, [], Result, Ok, Err}
+use Rattle.std.specs.Prelude.{◌≡◌, ◌⊎◌, ℕ, ◌≤◌, Bool, true, false, not, ◌&&◌, is_none, [], Result, Ok, Err}
 use Rattle.mt_chain.specs.declared.query.Next.{Next}
 use Rattle.mt_chain.specs.StoreCall.{Contents}
 use Rattle.mt_chain.specs.Store.{Store, Rose, Onward, Same}

@@ -1,5 +1,5 @@
 -- The rows that a history makes of those before it.
-use Rattle.std.specs.Prelude.{◌≡◌, ℕ, IsTrue, List, [], ◌∷◌, ◌++◌, length, None}
+use Rattle.std.specs.Prelude.{◌≡◌, ℕ, IsTrue, List, ◌∷◌, ◌++◌, length, None}
 use Rattle.mt_chain.specs.Rows.{Rows, are_rising}
 use Rattle.mt_chain.specs.Table.{Table, IsSameTable, table_of}
 use Rattle.mt_chain.specs.Batch.{refusal_of}

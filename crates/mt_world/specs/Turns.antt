@@ -1,9 +1,7 @@
 -- One turn of an actor: at most one store call, and then at most one entry.
 use Rattle.std.specs.Prelude.{◌≡◌, ◌⊎◌, ℕ, zero, suc, ◌+◌, ◌-◌, ◌^◌, ◌≤◌, min, Bool, true, false, not, List, [], ◌∷◌, ◌++◌, Option, Some, None, Result, Ok, Err}
 use Rattle.mt_model.specs.declared.text.NoMemory.{NoMemory as NoMemoryOf}
-use Rattle.mt_model.specs.declared.tag.Tag.{Tag}
 use Rattle.mt_chain.specs.declared.op.Op.{Op}
-use Rattle.mt_chain.specs.declared.op.Refusal.{Refusal}
 use Rattle.mt_chain.specs.declared.ask.Side.{Side}
 use Rattle.mt_chain.specs.declared.ask.Side.TheVariants.{Old, New}
 use Rattle.mt_chain.specs.declared.ask.Ask.{Ask}
@@ -14,7 +12,6 @@ use Rattle.mt_chain.specs.declared.ask.CallFault.TheVariants as call_fault
 use Rattle.mt_chain.specs.Store.{Store, Rose, Onward, Same}
 use Rattle.mt_chain.specs.Asks.{Calls}
 use Rattle.mt_chain.specs.Batch.{batch_weight}
-use Rattle.mt_rules.specs.Batches.{IsBatch}
 use Rattle.mt_history.specs.declared.entry.What.{What}
 use Rattle.mt_history.specs.declared.entry.What.TheVariants as what
 use Rattle.mt_history.specs.declared.entry.Entry.{Entry}

@@ -1,11 +1,11 @@
 -- A world as contracts see it: two stores, the table at their opening, and the history since.
-use Rattle.std.specs.Prelude.{◌≡◌, ◌⊎◌, ℕ, ◌+◌, ◌-◌, ◌^◌, ◌≤◌, ◌<◌, Bool, true, false, nat_eq, All, IsTrue, IfSome, is_some, List, [], ◌∷◌, ◌++◌, filter, length, Option, Some, None}
+use Rattle.std.specs.Prelude.{◌≡◌, ◌⊎◌, ℕ, ◌+◌, ◌-◌, ◌^◌, ◌≤◌, ◌<◌, Bool, true, false, All, IsTrue, IfSome, is_some, List, [], filter, length, Option, Some, None}
 use Rattle.std.specs.List.{last_or}
 use Rattle.mt_model.specs.declared.entity.Entity.{Entity}
 use Rattle.mt_model.specs.declared.tag.Tag.{Tag}
 use Rattle.mt_chain.specs.Rows.{are_rising}
 use Rattle.mt_chain.specs.StoreCall.{Contents}
-use Rattle.mt_chain.specs.Store.{Store, Rose}
+use Rattle.mt_chain.specs.Store.{Store}
 use Rattle.mt_chain.specs.Table.{Table, IsSameTable, table_of}
 use Rattle.mt_history.specs.declared.entry.What.{What}
 use Rattle.mt_history.specs.declared.entry.What.TheVariants as what

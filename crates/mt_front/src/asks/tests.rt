@@ -106,18 +106,27 @@ fn asked(alloc: Global, head: Head, content: Content) -> Result<Asked, Fail> {
     Ok(asked_by(alloc, request)?)
 }
 
+fn op_shortly(op: &Op, echo: Echo) -> Got {
+    match op {
+        Op::Insert { .. } => Got::Insert(echo),
+        Op::Replace { cond, .. } => Got::Replace(*cond),
+        Op::Merge { cond, .. } => Got::Merge(*cond),
+        Op::Delete { cond, .. } => Got::Delete(*cond),
+        Op::InsertOrReplace { .. } => Got::InsertOrReplace,
+        Op::InsertOrMerge { .. } => Got::InsertOrMerge,
+    }
+}
+
 fn shortly(asked: &Asked) -> Got {
     match asked {
         Asked::Refused(refusal) => Got::Refused(*refusal),
-        Asked::Write { op, echo } => match op {
-            Op::Insert { .. } => Got::Insert(*echo),
-            Op::Replace { cond, .. } => Got::Replace(*cond),
-            Op::Merge { cond, .. } => Got::Merge(*cond),
-            Op::Delete { cond, .. } => Got::Delete(*cond),
-            Op::InsertOrReplace { .. } => Got::InsertOrReplace,
-            Op::InsertOrMerge { .. } => Got::InsertOrMerge,
-        },
+        Asked::Write { op, echo } => op_shortly(op, *echo),
     }
+}
+
+fn asked_shortly(alloc: Global, head: Head, content: Content) -> Result<Got, Fail> {
+    let asked = asked(alloc, head, content)?;
+    Ok(shortly(&asked))
 }
 
 #[test]
@@ -172,7 +181,7 @@ fn reads_inserts(rt: HostRuntime) -> Result<(), Fail> {
             if_match,
             no_content,
         };
-        let got = shortly(&asked(alloc, head, content)?);
+        let got = asked_shortly(alloc, head, content)?;
         assert!(rt; got == want, "{got:?}");
     }
     Ok(())
@@ -216,7 +225,7 @@ fn reads_conditions(rt: HostRuntime) -> Result<(), Fail> {
             if_match,
             no_content: false,
         };
-        let got = shortly(&asked(alloc, head, Content::OtherKeys)?);
+        let got = asked_shortly(alloc, head, Content::OtherKeys)?;
         assert!(rt; got == want, "{got:?}");
     }
     Ok(())
@@ -277,7 +286,7 @@ fn refuses_in_order(rt: HostRuntime) -> Result<(), Fail> {
             if_match,
             no_content: true,
         };
-        let got = shortly(&asked(alloc, head, Content::NoJson)?);
+        let got = asked_shortly(alloc, head, Content::NoJson)?;
         assert!(rt; got == want, "{got:?}");
     }
     Ok(())
@@ -292,21 +301,30 @@ fn props(alloc: Global) -> Result<Props, Fail> {
     Ok(Props::build(alloc, list)?)
 }
 
+/// The properties that an operation brings; a delete brings none.
+fn props_of(op: &Op) -> Option<&Props> {
+    match op {
+        Op::Insert { props, .. }
+        | Op::Replace { props, .. }
+        | Op::Merge { props, .. }
+        | Op::InsertOrReplace { props, .. }
+        | Op::InsertOrMerge { props, .. } => Some(props),
+        Op::Delete { .. } => None,
+    }
+}
+
 /// Whether an operation on the key `p`, `r` with the property `A` is asked for, or a delete there.
 fn is_as_sent(alloc: Global, asked: &Asked) -> Result<bool, Fail> {
+    let Asked::Write { op, .. } = asked else {
+        return Ok(false);
+    };
     let want = Key::read(alloc, "p", "r")?;
     let sent = props(alloc)?;
-    match asked {
-        Asked::Refused(_) => Ok(false),
-        Asked::Write { op, .. } => match op {
-            Op::Insert { key, props }
-            | Op::Replace { key, props, .. }
-            | Op::Merge { key, props, .. }
-            | Op::InsertOrReplace { key, props }
-            | Op::InsertOrMerge { key, props } => Ok(*key == want && *props == sent),
-            Op::Delete { key, .. } => Ok(*key == want),
-        },
-    }
+    let is_sent = match props_of(op) {
+        Some(props) => *props == sent,
+        None => true,
+    };
+    Ok(is_sent && *op.key() == want)
 }
 
 #[test]

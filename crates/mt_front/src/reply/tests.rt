@@ -1,3 +1,5 @@
+ghost use Rattle.std.specs.Prelude.{IfOk};
+ghost use Rattle.mt_front.specs.declared.asks.Echo.TheVariants as echo;
 ghost use Rattle.mt_front.specs.Replies.{HasEcho};
 
 use super::{done, prepare};
@@ -7,28 +9,32 @@ use mt_model::{Key, Name, Prop, Props, Tag, Text, Value};
 use std::alloc::Global;
 use std::test::Fail;
 
-/// What was done to the row of the key `p`, `r`, with the property `A` of value `x`.
+/// The tag of the first row of a new table.
+const TAG: Tag = Tag { store: 0, n: 2 };
+
+/// What was done to a row that need not be new.
 #[derive(Clone, Copy)]
-enum Done {
-    Inserted(Shown),
-    Replaced,
-    Merged,
-    Deleted,
-    Put,
-    PutOver,
+enum Change {
+    Replace,
+    Merge,
+    Delete,
+    InsertOrReplace,
+    InsertOrMerge,
 }
 
-/// What the reply to an insert was to show.
+/// What the reply to an insert is to show.
 #[derive(Clone, Copy)]
 enum Shown {
     Entity,
     NoContent,
 }
 
+/// The key `p`, `r`.
 fn key(alloc: Global) -> Result<Key, Fail> {
     Ok(Key::read(alloc, "p", "r")?)
 }
 
+/// The property `A` of value `x`.
 fn props(alloc: Global) -> Result<Props, Fail> {
     let mut list = Vec::new(alloc);
     list.push(Prop {
@@ -38,33 +44,34 @@ fn props(alloc: Global) -> Result<Props, Fail> {
     Ok(Props::build(alloc, list)?)
 }
 
-/// The reply, where the row has the tag 0.2.
-fn told(alloc: Global, op: &Op, echo: Echo) -> Result<Vec<u8>, Fail>
+/// The reply, where the row has this tag.
+fn told(alloc: Global, op: &Op, echo: Echo, tag: Tag) -> Result<Vec<u8>, Fail>
     requires { HasEcho echo op.now }
 {
     let prepared = prepare(alloc, op, echo)?;
-    Ok(done(prepared, Tag { store: 0, n: 2 }))
+    Ok(done(prepared, tag))
 }
 
-fn told_insert(alloc: Global, key: Key, props: Props, shown: Shown) -> Result<Vec<u8>, Fail> {
-    let op = Op::Insert { key, props };
-    match shown {
-        Shown::Entity => told(alloc, &op, Echo::Entity),
-        Shown::NoContent => told(alloc, &op, Echo::NoContent),
-    }
+fn insert(alloc: Global) -> Result<Op, Fail>
+    ensures entity { IfOk result (HasEcho echo.Entity) }
+    ensures no_content { IfOk result (HasEcho echo.NoContent) }
+{
+    Ok(Op::Insert {
+        key: key(alloc)?,
+        props: props(alloc)?,
+    })
 }
 
-fn reply_to(alloc: Global, what: Done) -> Result<Vec<u8>, Fail> {
-    let key = key(alloc)?;
-    let props = props(alloc)?;
+fn changing(key: Key, props: Props, change: Change) -> Op
+    ensures { HasEcho echo.Plain result }
+{
     let cond = Cond::Any;
-    match what {
-        Done::Inserted(shown) => told_insert(alloc, key, props, shown),
-        Done::Replaced => told(alloc, &Op::Replace { key, props, cond }, Echo::Plain),
-        Done::Merged => told(alloc, &Op::Merge { key, props, cond }, Echo::Plain),
-        Done::Deleted => told(alloc, &Op::Delete { key, cond }, Echo::Plain),
-        Done::Put => told(alloc, &Op::InsertOrReplace { key, props }, Echo::Plain),
-        Done::PutOver => told(alloc, &Op::InsertOrMerge { key, props }, Echo::Plain),
+    match change {
+        Change::Replace => Op::Replace { key, props, cond },
+        Change::Merge => Op::Merge { key, props, cond },
+        Change::Delete => Op::Delete { key, cond },
+        Change::InsertOrReplace => Op::InsertOrReplace { key, props },
+        Change::InsertOrMerge => Op::InsertOrMerge { key, props },
     }
 }
 
@@ -78,33 +85,45 @@ const TAGGED: &str = "HTTP/1.1 204 No Content\r\nETag: W/\"0.2\"\r\n\r\n";
 
 const GONE: &str = "HTTP/1.1 204 No Content\r\n\r\n";
 
+/// The reply to the insert of a row.
+fn told_insert(alloc: Global, shown: Shown) -> Result<Vec<u8>, Fail> {
+    let op = insert(alloc)?;
+    match shown {
+        Shown::Entity => told(alloc, &op, Echo::Entity, TAG),
+        Shown::NoContent => told(alloc, &op, Echo::NoContent, TAG),
+    }
+}
+
 #[test]
-fn tells_what_was_done(rt: HostRuntime) -> Result<(), Fail> {
+fn tells_of_an_insert(rt: HostRuntime) -> Result<(), Fail> {
     let alloc = rt.alloc();
-    for (what, want) in [
-        (Done::Inserted(Shown::Entity), CREATED),
-        (Done::Inserted(Shown::NoContent), NO_CONTENT),
-        (Done::Replaced, TAGGED),
-        (Done::Merged, TAGGED),
-        (Done::Deleted, GONE),
-        (Done::Put, TAGGED),
-        (Done::PutOver, TAGGED),
-    ] {
-        let got = reply_to(alloc, what)?;
+    for (shown, want) in [(Shown::Entity, CREATED), (Shown::NoContent, NO_CONTENT)] {
+        let got = told_insert(alloc, shown)?;
         assert!(rt; got.as_slice() == want.as_bytes(), "{got:?}");
     }
     Ok(())
 }
 
-/// The reply to a replaced row with this tag.
-fn tagged(alloc: Global, tag: Tag) -> Result<Vec<u8>, Fail> {
-    let op = Op::Replace {
-        key: key(alloc)?,
-        props: props(alloc)?,
-        cond: Cond::Is(Tag { store: 1, n: 1 }),
-    };
-    let prepared = prepare(alloc, &op, Echo::Plain)?;
-    Ok(done(prepared, tag))
+/// The reply to a change of a row that has this tag.
+fn told_change(alloc: Global, what: Change, tag: Tag) -> Result<Vec<u8>, Fail> {
+    let op = changing(key(alloc)?, props(alloc)?, what);
+    told(alloc, &op, Echo::Plain, tag)
+}
+
+#[test]
+fn tells_of_a_change(rt: HostRuntime) -> Result<(), Fail> {
+    let alloc = rt.alloc();
+    for (what, want) in [
+        (Change::Replace, TAGGED),
+        (Change::Merge, TAGGED),
+        (Change::Delete, GONE),
+        (Change::InsertOrReplace, TAGGED),
+        (Change::InsertOrMerge, TAGGED),
+    ] {
+        let got = told_change(alloc, what, TAG)?;
+        assert!(rt; got.as_slice() == want.as_bytes(), "{got:?}");
+    }
+    Ok(())
 }
 
 #[test]
@@ -123,7 +142,7 @@ fn has_room_for_every_tag(rt: HostRuntime) -> Result<(), Fail> {
             "HTTP/1.1 204 No Content\r\nETag: W/\"4294967295.18446744073709551615\"\r\n\r\n",
         ),
     ] {
-        let got = tagged(alloc, tag)?;
+        let got = told_change(alloc, Change::Replace, tag)?;
         assert!(rt; got.as_slice() == want.as_bytes(), "{got:?}");
     }
     Ok(())

@@ -7,8 +7,8 @@ use Rattle.mt_mem.proofs.tests.query.Goals as goal
 
 pub returns : goal.returns
 returns c =
-    let name = c.in_ok-of.field-0 in
-    let names : c.of-3.result ≡ name ∷ [] = c.of-3.ensures ∙ c.in_ok-push.ensures.items ∙ ap (λ ns. ns ++ name ∷ []) c.new-names.ensures.items in
+    let name = c.args.name in
+    let names : c.of.result ≡ name ∷ [] = c.of.ensures ∙ c.in_ok-push.ensures.items ∙ ap (λ ns. ns ++ name ∷ []) c.new-names.ensures.items in
     let long = ap length names in
     record {
       few = omega (arith, long);

@@ -1,4 +1,4 @@
-use Rattle.std.proofs.Common.{rules, sym, ◌∙◌}
+use Rattle.std.proofs.Common.{sym, ◌∙◌}
 use Rattle.mt_world.proofs.LogLaws.{held_same}
 use Rattle.mt_world.proofs.log.hold_number.Goals as goal
 

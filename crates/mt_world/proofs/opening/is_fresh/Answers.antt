@@ -1,4 +1,4 @@
-use Rattle.std.proofs.Common.{rules, ap, sym, ◌∙◌}
+use Rattle.std.proofs.Common.{ap}
 use Rattle.mt_chain.specs.declared.query.PkFrom.TheVariants as start
 use Rattle.mt_world.proofs.OpenLaws.{looked}
 use Rattle.mt_world.proofs.opening.is_fresh.Goals as goal

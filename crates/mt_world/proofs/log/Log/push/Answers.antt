@@ -1,4 +1,4 @@
-use Rattle.std.proofs.Common.{rules, refl, ap, sym, subst, ◌∙◌, Some, IsSome, ◌+◌}
+use Rattle.std.proofs.Common.{refl, ap, sym, subst, ◌∙◌, IsSome, ◌+◌}
 use Rattle.std.specs.Option.{option_copied_mut}
 use Rattle.std.specs.Map.{count_at}
 use Rattle.mt_world.proofs.LogLaws.{log_more}

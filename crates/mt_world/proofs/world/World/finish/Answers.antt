@@ -1,7 +1,7 @@
-use Rattle.std.proofs.Common.{rules, subst, Ok, Err}
+use Rattle.std.proofs.Common.{subst, Ok, Err}
 use Rattle.std.proofs.lemmas.Result.{err_from_is_err_and}
 use Rattle.mt_world.specs.Turns.{Turns}
-use Rattle.mt_world.proofs.FinishLaws.{went_none, went_more, went_ends, can_go_on, fewer_left, ends_answers}
+use Rattle.mt_world.proofs.FinishLaws.{went_more, went_ends, can_go_on, fewer_left, ends_answers}
 use Rattle.mt_world.proofs.world.World.finish.Goals as goal
 
 pub returns-in_err-turn-clause-ends : goal.returns-in_err-turn-clause-ends

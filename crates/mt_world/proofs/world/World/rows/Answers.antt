@@ -1,4 +1,4 @@
-use Rattle.std.proofs.Common.{rules, subst}
+use Rattle.std.proofs.Common.{subst}
 use Rattle.std.proofs.lemmas.Result.{IfOk-weaker}
 use Rattle.mt_history.specs.Replies.{rows_of}
 use Rattle.mt_world.specs.Replays.{LeavesRows, CountsRows}

@@ -1,4 +1,3 @@
-use Rattle.std.proofs.Common.{rules}
 use Rattle.mt_world.proofs.TurnLaws.{turn_at}
 use Rattle.mt_world.proofs.world.World.turn.Goals as goal
 

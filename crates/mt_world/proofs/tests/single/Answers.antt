@@ -1,7 +1,7 @@
 use Rattle.std.proofs.Common.{◌++◌, ◌∷◌, [], ap, sym, subst, ◌∙◌}
 use Rattle.mt_chain.specs.Puts.{CanApply}
 use Rattle.mt_chain.proofs.PutLaws.{can_apply_one}
-use Rattle.mt_mem.proofs.tests.one.Goals as goal
+use Rattle.mt_world.proofs.tests.single.Goals as goal
 
 pub returns : goal.returns
 returns c = subst CanApply
