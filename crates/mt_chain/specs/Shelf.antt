@@ -36,11 +36,11 @@ pub record NotHandedOut (s t : Shelf) : Type 0 where
   pub out : (m : ℕ) → t.out m ≡ s.out m
   pub faults : s.faults ≤ t.faults
 
--- what comes of asking for a store, where `state` shows a keeper as a store
+-- what comes of asking for a store, where `state` shows a keeper as a store; want of memory is no fault
 abbrev pub Opens : {K : Type 0} → (K → Store) → Shelf → ℕ → Result K DepotFault → Shelf → Type 0
 Opens state s n (Ok k) t = HandedOut s n (state k) t
 Opens state s n (Err Failed) t = NotHandedOut s t × Rose s.faults t.faults
-Opens state s n (Err NoMemory) t = NotHandedOut s t
+Opens state s n (Err NoMemory) t = NotHandedOut s t × (t.faults ≡ s.faults)
 
 -- a store came back: the depot's count grew by the store's
 pub record TakesBack (s : Shelf) (k : Store) (t : Shelf) : Type 0 where

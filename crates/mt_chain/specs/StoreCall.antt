@@ -1,5 +1,5 @@
 -- The meaning of the four store calls, over the plain contents of a store.
-use Rattle.std.specs.Prelude.{◌≡◌, ℕ, ◌≤◌, Bool, true, false, not, ◌&&◌, IsTrue, IfSome, All, Contains, List, [], length, Option, None, Some, if◌then◌else◌}
+use Rattle.std.specs.Prelude.{◌≡◌, ℕ, ◌+◌, ◌^◌, ◌≤◌, Bool, true, false, not, ◌&&◌, IsTrue, IfSome, All, Contains, List, [], length, Option, None, Some, if◌then◌else◌}
 use Rattle.std.specs.List.Sorted.{IsStrictlySortedBy}
 use Rattle.std.specs.Ordering.{nat_cmp, is_le}
 use Rattle.std.specs.Cmp.Lexicographic.{slice_cmp}
@@ -42,6 +42,10 @@ is_sealed_off c pk = c.sealed && not (has_partition c.rows pk)
 -- a sealed store takes no birth of a partition; else the least put that does not hold refuses; else all are done at once
 abbrev pub judge : ℕ → Contents → List ℕ → List Put → Outcome
 judge store c pk puts = if is_sealed_off c pk then SealedOff else unless_unmet (unmet_from 0 c.rows pk puts) (done store c pk puts)
+
+-- the counter stays within its end, 2^62, even if each put takes a tag
+abbrev pub HasRoom : List Put → Contents → Type 0
+HasRoom puts c = c.counter + length puts ≤ 2 ^ 62
 
 -- what may be asked for in one query
 pub record CanQuery (q : RangeQuery) : Type 0 where

@@ -60,12 +60,13 @@ pub enum CallFault {
     /// The store failed; its count of faults rose.
     Failed,
 
-    /// The allocator had no memory.
+    /// The allocator had no memory; no count of faults rose.
     NoMemory,
 }
 
 impl Ask {
-    /// Makes the call of a store. After a fault the store holds what it held before.
+    /// Makes the call of a store. After a fault the store holds what it held before. Its count of
+    /// faults rises where the call is `Failed`, and nowhere else.
     pub fn call<K: Keeper>(&self, alloc: Global, keeper: &mut K) -> Result<StoreReply, CallFault>
         requires { CanAsk self.now }
         ensures { Calls (K.state keeper.old) self.now result (K.state keeper.new) }
@@ -73,8 +74,9 @@ impl Ask {
         match self {
             Ask::Query(query) => match keeper.query(alloc, query) {
                 Ok(found) => Ok(StoreReply::Found(found)),
+                Err(KeepFault::Failed) => Err(CallFault::Failed),
                 Err(KeepFault::NoMemory) => Err(CallFault::NoMemory),
-                Err(_) => Err(CallFault::Failed),
+                Err(KeepFault::Unmet { .. } | KeepFault::Sealed) => unreachable!(),
             },
             Ask::Apply { pk, puts } => match keeper.apply(alloc, pk, puts) {
                 Ok(tags) => Ok(StoreReply::Applied(tags)),
@@ -85,13 +87,15 @@ impl Ask {
             },
             Ask::Next(at) => match keeper.next_partition(alloc, at) {
                 Ok(next) => Ok(StoreReply::Next(next)),
+                Err(KeepFault::Failed) => Err(CallFault::Failed),
                 Err(KeepFault::NoMemory) => Err(CallFault::NoMemory),
-                Err(_) => Err(CallFault::Failed),
+                Err(KeepFault::Unmet { .. } | KeepFault::Sealed) => unreachable!(),
             },
             Ask::Seal => match keeper.seal(alloc) {
                 Ok(()) => Ok(StoreReply::SealDone),
+                Err(KeepFault::Failed) => Err(CallFault::Failed),
                 Err(KeepFault::NoMemory) => Err(CallFault::NoMemory),
-                Err(_) => Err(CallFault::Failed),
+                Err(KeepFault::Unmet { .. } | KeepFault::Sealed) => unreachable!(),
             },
         }
     }

@@ -9,7 +9,7 @@ use std::alloc::Global;
 pub enum DepotFault {
     /// The depot failed; its count of faults rose.
     Failed,
-    /// The allocator had no memory.
+    /// The allocator had no memory; the count of faults stayed.
     NoMemory,
 }
 

@@ -23,8 +23,10 @@ pub enum KeepFault {
 
 /// A store of rows by key.
 ///
-/// It counts its calls and its faults; both counts stand still at their end. A call that does not
-/// answer Ok leaves rows, seal and counter as they were. From call 2^62 on each call is `Failed`.
+/// It counts its calls and its faults; both counts stand still at their end. The count of faults rises
+/// in a call that is `Failed`, and in no other, also not for want of memory. A call that does not
+/// answer Ok leaves rows, seal and counter as they were. From call 2^62 on each call is `Failed`, and
+/// so is a call that asks for more changes than the counter has tags left below 2^62.
 pub trait Keeper: Drop {
     ghost state: { Self → Store };
 
@@ -39,7 +41,8 @@ pub trait Keeper: Drop {
     /// Makes all changes of a partition at once, or none.
     ///
     /// 1 to 101 changes of distinct rows, all judged on the rows before the call. Answers one tag for
-    /// each: the next one of the store for a row that is written, else the one named.
+    /// each: the next one of the store for a row that is written, else the one named. `Failed` where
+    /// the counter plus the number of changes passes 2^62.
     fn apply(&mut self, alloc: Global, pk: &Text, puts: &Puts) -> Result<Tags, KeepFault>
         requires { CanApply puts.now }
         ensures { Applies (state self.old) pk.now puts.now result (state self.new) };
