@@ -1,13 +1,14 @@
-//! The rows that a history makes of those before it.
-ghost use Rattle.std.specs.Prelude.{◌≡◌, ◌∷◌, [], All, IsTrue, IfOk};
+//! A reference program: the rows that a history makes of those before it. It is not made to be fast.
+ghost use Rattle.std.specs.Prelude.{◌≡◌, ◌∷◌, [], IsTrue, IfOk};
 ghost use Rattle.mt_chain.specs.Rows.{are_rising};
-ghost use Rattle.mt_history.specs.Replies.{rows_of};
+ghost use Rattle.mt_chain.specs.Table.{rows_of};
 ghost use Rattle.mt_world.specs.Logs.{IsTagged};
 ghost use Rattle.mt_world.specs.Replays.{IsAfter, IsReplay, LeavesRows};
 
+use crate::log::Log;
 use mt_chain::Stored;
 use mt_chain::model::{ApplyFault, Row, apply_batch};
-use mt_history::{Entry, What};
+use mt_history::What;
 use mt_model::{Entities, Entity, NoMemory};
 use std::alloc::Global;
 
@@ -47,26 +48,27 @@ fn after(alloc: Global, rows: Vec<Row>, what: &What) -> Result<Vec<Row>, NoMemor
     }
 }
 
-/// The rows after these entries. A batch that the rows before it refuse leaves none: no history of
-/// stores that tell what they hold has one.
-fn replayed(alloc: Global, mut rows: Vec<Row>, entries: &[Entry]) -> Result<Vec<Row>, NoMemory>
-    requires rising { IsTrue (are_rising rows.items) }
-    requires tagged { All (λ e. IsTagged e.what) entries.now }
-    ensures { IfOk result (λ after. IsReplay rows.items entries.now after.items) }
+/// The rows after the entries of a log. A batch that the rows before it refuse leaves none: no history
+/// of stores that tell what they hold has one.
+fn replayed(alloc: Global, mut rows: Vec<Row>, log: &Log) -> Result<Vec<Row>, NoMemory>
+    requires { IsTrue (are_rising rows.items) }
+    ensures { IfOk result (λ after. IsReplay rows.items log.now.history.entries after.items) }
 {
-    for entry in entries {
+    for at in 0..log.len() {
+        let Some(entry) = log.get(at) else {
+            unreachable!();
+        };
         rows = after(alloc, rows, &entry.what)?;
     }
     Ok(rows)
 }
 
-/// How many rows these entries leave of those before them.
-pub fn count_rows(alloc: Global, base: &Entities, entries: &[Entry]) -> Result<u64, NoMemory>
-    requires rising { IsTrue (are_rising (rows_of base.now)) }
-    requires tagged { All (λ e. IsTagged e.what) entries.now }
-    ensures { IfOk result (λ n. LeavesRows (rows_of base.now) entries.now n) }
+/// How many rows the entries of a log leave of those before them.
+pub fn count_rows(alloc: Global, base: &Entities, log: &Log) -> Result<u64, NoMemory>
+    requires { IsTrue (are_rising (rows_of base.now)) }
+    ensures { IfOk result (λ n. LeavesRows (rows_of base.now) log.now.history.entries n) }
 {
     let rows = copy_rows(alloc, base.as_slice())?;
-    let rows = replayed(alloc, rows, entries)?;
+    let rows = replayed(alloc, rows, log)?;
     Ok(rows.len() as u64)
 }

@@ -1,5 +1,5 @@
 use Rattle.std.proofs.Common.{◌≡◌, take}
-use Rattle.mt_history.specs.Replies.{rows_of}
+use Rattle.mt_chain.specs.Table.{rows_of}
 use Rattle.mt_world.proofs.replay.copy_rows.Given as goal
 
 abbrev pub invariant-loop-entity : goal.invariant-loop-entity
