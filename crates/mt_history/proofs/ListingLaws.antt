@@ -13,12 +13,12 @@ use Rattle.mt_model.specs.Key.{key_cmp}
 use Rattle.mt_filter.specs.declared.filter.Filter.{Filter}
 use Rattle.mt_chain.specs.declared.row.Stored.{Stored}
 use Rattle.mt_chain.specs.Rows.{Rows, are_rising, key_at}
-use Rattle.mt_chain.specs.Table.{Table, table_of}
+use Rattle.mt_chain.specs.Table.{Table, table_of, entity_of, rows_of, IsListing}
 use Rattle.mt_chain.proofs.KeyLaws.{key_ties}
 use Rattle.mt_chain.proofs.OrderLaws.{lt_less}
 use Rattle.mt_chain.proofs.RowLaws.{same_rows}
 use Rattle.mt_chain.proofs.SearchLaws.{rest_rising, head_below}
-use Rattle.mt_history.specs.Replies.{entity_of, rows_of, picked, kept_if, is_matched, selected, IsListing}
+use Rattle.mt_history.specs.Replies.{picked, kept_if, is_matched, selected}
 
 and_true : (a b : Bool) → a ≡ true → b ≡ true → (a && b) ≡ true
 and_true true b ea eb = eb

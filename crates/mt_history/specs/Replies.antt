@@ -9,31 +9,13 @@ use Rattle.mt_match.specs.Match.{matches}
 use Rattle.mt_chain.specs.declared.row.Stored.{Stored}
 use Rattle.mt_chain.specs.declared.op.Refusal.{Refusal}
 use Rattle.mt_chain.specs.declared.query.RkFrom.{RkFrom}
-use Rattle.mt_chain.specs.Rows.{Rows, are_rising, is_from, is_upto}
-use Rattle.mt_chain.specs.Table.{Table, IsSameTable, table_of}
+use Rattle.mt_chain.specs.Rows.{Rows, is_from, is_upto}
+use Rattle.mt_chain.specs.Table.{Table, IsListing, entity_of}
 use Rattle.mt_chain.specs.Batch.{refusal_of}
 use Rattle.mt_history.specs.declared.entry.What.{What}
 use Rattle.mt_history.specs.declared.entry.What.TheVariants as what
 use Rattle.mt_history.specs.declared.model.Reply.{Reply}
 use Rattle.mt_history.specs.declared.model.Reply.TheVariants as reply
-
--- ---- rows of a table
-
--- a row of a table as an entity
-abbrev pub entity_of : Key × Stored → Entity
-entity_of row = record { key = row.0; props = row.1.props; tag = row.1.tag }
-
--- an entity as a row of a table
-abbrev pub row_of : Entity → Key × Stored
-row_of entity = (entity.key, record { props = entity.props; tag = entity.tag })
-
-abbrev pub rows_of : List Entity → Rows
-rows_of entities = map row_of entities
-
--- these are the rows of the table, in the order of their keys
-pub record IsListing (entities : List Entity) (table : Table) : Type 0 where
-  pub rising : IsTrue (are_rising (rows_of entities))
-  pub rows : IsSameTable (table_of (rows_of entities)) table
 
 -- ---- what is read of a table
 

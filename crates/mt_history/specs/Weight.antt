@@ -72,3 +72,7 @@ need_of_query pk filter = 64 + length pk + filter_size filter
 -- a page needs 64, its filter's size, and 4,096 for the keys of a unit
 abbrev pub need_of_page : Option Filter → ℕ
 need_of_page filter = 64 + filter_size filter + 4096
+
+-- a turn that moves rows, seals or cleans needs the weight of a fault's entry
+abbrev pub need_of_move : ℕ
+need_of_move = 64

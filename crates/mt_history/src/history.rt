@@ -94,13 +94,6 @@ impl History {
         self.entries.len() as u64
     }
 
-    /// The entries in order.
-    pub fn entries(&self) -> &[Entry]
-        ensures { result.now ≡ self.now.entries }
-    {
-        self.entries.as_slice()
-    }
-
     /// The entry at a place, if it is kept. The first entry has the place 0.
     pub fn get(&self, at: u64) -> Option<&Entry>
         ensures { option_copied result ≡ entry_at self.now at }

@@ -6,14 +6,14 @@ ghost use Rattle.mt_model.specs.declared.key.Key.{Key};
 ghost use Rattle.mt_model.specs.declared.tag.Tag.{Tag};
 ghost use Rattle.mt_model.specs.declared.value.Prop.{Prop};
 ghost use Rattle.mt_chain.specs.declared.op.Op.{Op};
-ghost use Rattle.mt_chain.specs.Table.{Table, IsFinite};
+ghost use Rattle.mt_chain.specs.Table.{Table, IsFinite, IsListing};
 ghost use Rattle.mt_chain.specs.Batch.{table_after};
 ghost use Rattle.mt_history.specs.declared.entry.What.{What};
 ghost use Rattle.mt_history.specs.declared.entry.What.TheVariants.{Batch};
 ghost use Rattle.mt_history.specs.declared.entry.Entry.{Entry};
 ghost use Rattle.mt_history.specs.declared.model.Reply.{Reply};
 ghost use Rattle.mt_history.specs.Window.{Window, after_entry, replay, table_at_end, with_one};
-ghost use Rattle.mt_history.specs.Replies.{Replies, IsListing};
+ghost use Rattle.mt_history.specs.Replies.{Replies};
 ghost use Rattle.mt_history.specs.Cases.{two_inserts};
 ghost use Rattle.mt_history.specs.Legal.{IsLegal, IsLegalNext, IsTrueAtEnd, HasTag, all_tags, numbers_of};
 

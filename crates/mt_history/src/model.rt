@@ -5,7 +5,7 @@ ghost use Rattle.std.specs.Prelude.{◌≡◌, ◌<◌, ◌^◌, IsTrue, IfOk, l
 ghost use Rattle.mt_model.specs.Key.{key_cmp};
 ghost use Rattle.mt_chain.specs.Rows.{are_rising, is_from, is_upto};
 ghost use Rattle.mt_chain.specs.Places.{EndsAt};
-ghost use Rattle.mt_chain.specs.Table.{table_of};
+ghost use Rattle.mt_chain.specs.Table.{table_of, entity_of};
 ghost use Rattle.mt_chain.specs.Effect.{cause_on};
 ghost use Rattle.mt_chain.specs.Batch.{refusal_of};
 ghost use Rattle.mt_history.specs.Replies as says;
@@ -90,7 +90,7 @@ fn refusal_of(alloc: Global, rows: &[Row], ops: &[Op]) -> Result<Option<Refusal>
 
 /// A copy of a row.
 fn entity_of(alloc: Global, row: &Row) -> Result<Entity, NoMemory>
-    ensures { IfOk result (λ e. e ≡ says.entity_of row.now) }
+    ensures { IfOk result (λ e. e ≡ entity_of row.now) }
 {
     Ok(Entity {
         key: row.0.copy(alloc)?,
@@ -139,7 +139,7 @@ fn in_range(pk: &Text, from: &RkFrom, upto: &Option<Text>, key: &Key) -> bool
 
 /// A copy of the row, if the filter matches it.
 fn matched(alloc: Global, row: &Row, filter: &Option<Filter>) -> Result<Option<Entity>, NoMemory>
-    ensures { IfOk result (λ e. e ≡ (if says.is_matched filter.now row.now.0 row.now.1.props then Some (says.entity_of row.now) else None)) }
+    ensures { IfOk result (λ e. e ≡ (if says.is_matched filter.now row.now.0 row.now.1.props then Some (entity_of row.now) else None)) }
 {
     let entity = entity_of(alloc, row)?;
     if is_matched(filter, &entity) {

@@ -1,7 +1,7 @@
 use Rattle.std.proofs.Common.{◌∙◌, sym, ap, subst, refl}
 use Rattle.mt_chain.specs.Rows.{are_rising}
-use Rattle.mt_chain.specs.Table.{table_of}
-use Rattle.mt_history.specs.Replies.{in_range, selected, rows_of, IsListing}
+use Rattle.mt_chain.specs.Table.{table_of, rows_of, IsListing}
+use Rattle.mt_history.specs.Replies.{in_range, selected}
 use Rattle.mt_history.proofs.ListingLaws.{keys_rise, picked_is}
 use Rattle.mt_history.proofs.model.rows_reply.Goals as goal
 
