@@ -1,5 +1,6 @@
 pub mod KeyLaws
 pub mod Searches
+pub mod OneList
 pub mod RowLaws
 pub mod PutLaws
 pub mod JudgeLaws

@@ -1,7 +1,8 @@
 -- What stands at the place where a search ended.
 use Rattle.std.proofs.Common.{◌≡◌, ℕ, zero, suc, ◌-◌, ◌<◌, Bool, true, false, cond, not, ◌&&◌, ◌||◌, List, [], ◌∷◌, map, length, take, drop, get_or, set, insert, remove, filter, refl, sym, ap, ◌∙◌, inl, inr, arith, bytes_eq, Some, None, Less, Equal, Greater, Ordering, Result, Ok, Err, is_ok, option_map}
+use Rattle.std.proofs.lemmas.List.{get_or_default}
 use Rattle.std.proofs.lemmas.Bool.{and_parts, cases_lt}
-use Rattle.std.specs.List.{list_any, AllByRecursion, AllPairs, find as first_where}
+use Rattle.std.specs.List.{list_any, AllByRecursion, find as first_where}
 use Rattle.std.specs.List.Sorted.{IsStrictlySortedBy, IsNonDecreasingBy, IsPartitionedBy, IsPartitionPoint, IsBinarySearchResult, IsSearchInRange}
 use Rattle.std.specs.Ordering.{nat_cmp, is_lt, is_eq, eq_by_cmp, ordering_index}
 use Rattle.std.specs.Cmp.{alike_right, tied_back}
@@ -14,7 +15,7 @@ use Rattle.mt_chain.specs.Rows.{Rows, are_rising, has_partition}
 use Rattle.mt_chain.specs.Places.{EndsAt, IsCut}
 use Rattle.mt_chain.proofs.KeyLaws.{key_total, key_ties}
 use Rattle.mt_chain.proofs.OrderLaws.{lt_less, reversed, FallsByKey, RisesByKey}
-use Rattle.mt_chain.proofs.Searches.{rises_along, falls_along, search_ends_by, key_found, key_absent}
+use Rattle.mt_chain.proofs.Searches.{pairs_below, rises_along, falls_along, search_ends_by, key_found, key_absent}
 
 -- the key and the row of an entry
 abbrev Entry : Type 0
@@ -30,24 +31,6 @@ below_at : (x : Key) (rows : Rows) (k : ℕ) (d : Entry) → below_all key_cmp x
 below_at x [] k d h l = absurd (omega arith)
 below_at x (e ∷ rows) zero d h l = lt_less _ (and_parts (is_lt (key_cmp x e.0)) (below_all key_cmp x rows) h).0
 below_at x (e ∷ rows) (suc k) d h l = below_at x rows k d (and_parts (is_lt (key_cmp x e.0)) (below_all key_cmp x rows) h).1 (omega arith)
-
--- the key at a later place is greater
-pub rises : (rows : Rows) → are_rising rows ≡ true → AllPairs (λ (e f : Entry). key_cmp e.0 f.0 ≡ Less) rows
-rises [] h i j d ij jl = absurd (omega arith)
-rises (e ∷ rows) h i zero d ij jl = absurd (omega arith)
-rises (e ∷ rows) h zero (suc j) d ij jl = below_at e.0 rows j d (head_below e rows h) (omega arith)
-rises (e ∷ rows) h (suc i) (suc j) d ij jl = rises rows (rest_rising e rows h) i j d (omega arith) (omega arith)
-
-pub searchable : (ord : Key → Ordering) → RisesByKey ord → (rows : Rows) → are_rising rows ≡ true → IsNonDecreasingBy (λ (e : Entry). ordering_index (ord e.0)) rows
-searchable ord up rows h = rises_along (λ e f. key_cmp e.0 f.0 ≡ Less) (λ e. ord e.0) (λ e f. up e.0 f.0) rows (rises rows h)
-
-pub partitioned : (test : Key → Bool) → FallsByKey test → (rows : Rows) → are_rising rows ≡ true → IsPartitionedBy (λ (e : Entry). test e.0) rows
-partitioned test falls rows h = falls_along (λ e f. key_cmp e.0 f.0 ≡ Less) (λ e. test e.0) (λ e f. falls e.0 f.0) rows (rises rows h)
-
-pub search_ends : (ord : Key → Ordering) → RisesByKey ord → (rows : Rows) (r : Result ℕ ℕ) → are_rising rows ≡ true → IsSearchInRange r (length rows) → IsBinarySearchResult (λ (e : Entry). ord e.0) rows r → EndsAt ord rows r
-search_ends ord up rows r h bound found = search_ends_by (λ e. ord e.0) rows r (searchable ord up rows h) bound found
-
--- ---- look-ups
 
 -- rows rise by `are_rising` as their keys do by std's word for lists
 pub keys_sorted : (rows : Rows) → are_rising rows ≡ true → IsStrictlySortedBy key_cmp (map (λ e. e.0) rows)
@@ -69,6 +52,21 @@ sorted_rising (e ∷ rows) h = both (below e.0 rows h.0) (sorted_rising rows h.1
   below x [] h = refl
   below x (f ∷ rows) h = both (ap is_lt h.0) (below x rows h.1)
 
+-- the key at a later place is greater
+pub rises : (rows : Rows) (i j : ℕ) (d : Entry) → are_rising rows ≡ true → i < j → j < length rows → key_cmp (get_or rows i d).0 (get_or rows j d).0 ≡ Less
+rises rows i j d h ij jl = pairs_below key_total (λ (e : Entry). e.0) rows (keys_sorted rows h) i j d ij jl
+
+pub searchable : (ord : Key → Ordering) → RisesByKey ord → (rows : Rows) → are_rising rows ≡ true → IsNonDecreasingBy (λ (e : Entry). ordering_index (ord e.0)) rows
+searchable ord up rows h = rises_along (λ e f. key_cmp e.0 f.0 ≡ Less) (λ e. ord e.0) (λ e f. up e.0 f.0) rows (λ i j d. rises rows i j d h)
+
+pub partitioned : (test : Key → Bool) → FallsByKey test → (rows : Rows) → are_rising rows ≡ true → IsPartitionedBy (λ (e : Entry). test e.0) rows
+partitioned test falls rows h = falls_along (λ e f. key_cmp e.0 f.0 ≡ Less) (λ e. test e.0) (λ e f. falls e.0 f.0) rows (λ i j d. rises rows i j d h)
+
+pub search_ends : (ord : Key → Ordering) → RisesByKey ord → (rows : Rows) (r : Result ℕ ℕ) → are_rising rows ≡ true → IsSearchInRange r (length rows) → IsBinarySearchResult (λ (e : Entry). ord e.0) rows r → EndsAt ord rows r
+search_ends ord up rows r h bound found = search_ends_by (λ e. ord e.0) rows r (searchable ord up rows h) bound found
+
+-- ---- look-ups
+
 -- the row at a key is that of the first entry with the key
 pub find_entry : (key : Key) (rows : Rows) → find key_cmp key rows ≡ option_map (λ (e : Entry). e.1) (first_where (λ (e : Entry). eq_by_cmp key_cmp key e.0) rows)
 find_entry key [] = refl
@@ -77,10 +75,11 @@ find_entry key (e ∷ rows) = elim (eq_by_cmp key_cmp key e.0) as (λ b. cond b 
   | false ↦ find_entry key rows
 ]
 
-pub find_at : (key : Key) (rows : Rows) (at : ℕ) (d : Entry) → are_rising rows ≡ true → EndsAt (λ k. key_cmp k key) rows (Ok at) → find key_cmp key rows ≡ Some (get_or rows at d).1
-find_at key rows at d h ends =
+pub find_at : (key : Key) (rows : Rows) (at : ℕ) (d : Entry) → are_rising rows ≡ true → at < length rows → key_cmp (get_or rows at d).0 key ≡ Equal → find key_cmp key rows ≡ Some (get_or rows at d).1
+find_at key rows at d h within tie =
     find_entry key rows
-    ∙ ap (option_map (λ (e : Entry). e.1)) (key_found key_total (λ (e : Entry). e.0) key (λ e. eq_by_cmp key_cmp key e.0) (λ e. refl) rows at d (keys_sorted rows h) ends)
+    ∙ ap (option_map (λ (e : Entry). e.1)) (key_found key_total (λ (e : Entry). e.0) key (λ e. eq_by_cmp key_cmp key e.0) (λ e. refl) rows at d (keys_sorted rows h)
+        (within, λ e. ap (λ (x : Entry). key_cmp x.0 key) (get_or_default rows at e d within) ∙ tie))
 
 pub find_gap : (key : Key) (rows : Rows) (at : ℕ) → EndsAt (λ k. key_cmp k key) rows (Err at) → find key_cmp key rows ≡ None
 find_gap key rows at ends =
