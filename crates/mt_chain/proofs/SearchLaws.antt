@@ -79,7 +79,7 @@ pub find_at : (key : Key) (rows : Rows) (at : ℕ) (d : Entry) → are_rising ro
 find_at key rows at d h within tie =
     find_entry key rows
     ∙ ap (option_map (λ (e : Entry). e.1)) (key_found key_total (λ (e : Entry). e.0) key (λ e. eq_by_cmp key_cmp key e.0) (λ e. refl) rows at d (keys_sorted rows h)
-        (within, λ e. ap (λ (x : Entry). key_cmp x.0 key) (get_or_default rows at e d within) ∙ tie))
+    (within, λ e. ap (λ (x : Entry). key_cmp x.0 key) (get_or_default rows at e d within) ∙ tie))
 
 pub find_gap : (key : Key) (rows : Rows) (at : ℕ) → EndsAt (λ k. key_cmp k key) rows (Err at) → find key_cmp key rows ≡ None
 find_gap key rows at ends =
