@@ -13,7 +13,7 @@ use Rattle.mt_chain.specs.declared.op.Op.{Op}
 use Rattle.mt_chain.specs.Table.{Table, IsSameTable, table_of, rows_of}
 use Rattle.mt_chain.specs.Batch.{refusal_of, batch_applied, op_at, row_after, Tagged}
 use Rattle.mt_chain.specs.Store.{Rose}
-use Rattle.mt_chain.proofs.BatchLaws.{same_refusal}
+use Rattle.mt_chain.proofs.Theorems.{same_refusal}
 use Rattle.mt_history.specs.declared.entry.What.{What}
 use Rattle.mt_history.specs.declared.entry.What.TheVariants as what
 use Rattle.mt_history.specs.declared.entry.Entry.{Entry}
