@@ -1,16 +1,13 @@
 -- Refusals and effects of batches: the least index, order, and rows that are not named.
-use Rattle.std.proofs.Common.{◌≡◌, ℕ, zero, suc, ◌+◌, ◌<◌, Bool, true, false, cond, ◌||◌, List, [], ◌∷◌, map, length, get_or, refl, sym, ap, subst, ◌∙◌, arith, IsTrue, Some, None, Option, is_some, option_map, unwrap_or, Err, All, Contains, rules}
+use Rattle.std.proofs.Common.{◌≡◌, ℕ, zero, suc, ◌+◌, ◌<◌, Bool, true, false, cond, ◌||◌, List, [], ◌∷◌, map, length, get_or, refl, sym, ap, ◌∙◌, arith, IsTrue, Some, None, Option, is_some, option_map, unwrap_or, Contains}
 use Rattle.std.specs.Option.{option_or}
 use Rattle.std.specs.Result.{result_err}
 use Rattle.std.specs.List.{list_any, find, zip, AllByRecursion, IsDistinct, HoldsAt}
 use Rattle.std.specs.List.Sorted.{IsPermutation}
-use Rattle.std.specs.Map.{keys_of}
 use Rattle.std.specs.Ordering.{eq_by_cmp, is_eq}
 use Rattle.std.specs.Cmp.{eq_by_cmp_equiv, tied_itself}
-use Rattle.std.proofs.lemmas.List.Elements.{All-from_recursion, recursion_from_All}
 use Rattle.std.proofs.lemmas.List.Sorted.{Contains-permutation, IsPermutation-map, list_any-IsPermutation}
 use Rattle.std.proofs.lemmas.Map.Keys.{IsDistinct-IsPermutation}
-use Rattle.std.proofs.lemmas.Map.Made.{keys_of-zip}
 use Rattle.mt_model.specs.declared.key.Key.{Key}
 use Rattle.mt_model.specs.declared.tag.Tag.{Tag}
 use Rattle.mt_model.specs.declared.value.Prop.{Prop}
@@ -18,19 +15,16 @@ use Rattle.mt_model.specs.Merge.{merged}
 use Rattle.mt_model.specs.Key.{key_cmp}
 use Rattle.mt_chain.specs.declared.row.Stored.{Stored}
 use Rattle.mt_chain.specs.declared.op.Op.{Op}
-use Rattle.mt_chain.specs.declared.op.Op.TheVariants.{Insert, Replace, Merge, Delete, InsertOrReplace, InsertOrMerge}
 use Rattle.mt_chain.specs.declared.op.Cause.{Cause}
-use Rattle.mt_chain.specs.declared.op.Cause.TheVariants.{ConditionFailed}
-use Rattle.mt_chain.specs.declared.op.Cond.{Cond}
 use Rattle.mt_chain.specs.declared.op.Refusal.{Refusal}
 use Rattle.mt_chain.specs.Rows.{Rows, are_rising}
-use Rattle.mt_chain.specs.Table.{Table, IsSameTable, IsFinite, table_of, with_entry}
-use Rattle.mt_chain.specs.Effect.{Outcome, op_key, effect, cause_on, left_by, meets, writes, merges, unless_refused, limits_cause, any_tag}
-use Rattle.mt_chain.specs.Batch.{Tagged, cause_in, refusal_at, refusal_from, refusal_of, names, op_at, row_after, batch_applied, unless_refusal, table_after, AreApart, IsReordered, IsLeast}
-use Rattle.mt_chain.specs.Model.{rows_with, rows_left, with_rows_left}
+use Rattle.mt_chain.specs.Table.{Table, IsSameTable, table_of}
+use Rattle.mt_chain.specs.Effect.{Outcome, op_key, cause_on, writes, merges, unless_refused, limits_cause, any_tag}
+use Rattle.mt_chain.specs.Batch.{Tagged, cause_in, refusal_at, refusal_from, names, op_at, unless_refusal, AreApart}
+use Rattle.mt_chain.specs.Model.{rows_with, with_rows_left}
 use Rattle.mt_chain.proofs.KeyLaws.{key_total, key_ties}
 use Rattle.mt_chain.proofs.OrderLaws.{eq_equal}
-use Rattle.mt_chain.proofs.ModelLaws.{table_of-rows_with, rising_rows_with, left_applied, with_same}
+use Rattle.mt_chain.proofs.ModelLaws.{table_of-rows_with, rising_rows_with}
 
 -- ---- causes
 
@@ -38,31 +32,17 @@ limited : (cause : Option Cause) (a b : Outcome) → result_err a ≡ result_err
 limited None a b same = same
 limited (Some cause) a b same = refl
 
-chosen : (met : Bool) (a b c : Outcome) → result_err a ≡ result_err b → result_err (cond met a c) ≡ result_err (cond met b c)
+pub chosen : (met : Bool) (a b c : Outcome) → result_err a ≡ result_err b → result_err (cond met a c) ≡ result_err (cond met b c)
 chosen true a b c same = same
 chosen false a b c same = refl
 
-merged_cause : (own over : List Prop) (tag : Tag) → result_err (merges own over tag) ≡ result_err (merges own over any_tag)
+pub merged_cause : (own over : List Prop) (tag : Tag) → result_err (merges own over tag) ≡ result_err (merges own over any_tag)
 merged_cause own over tag = limited (limits_cause (merged own over)) (writes (merged own over) tag) (writes (merged own over) any_tag) refl
-
-pub cause_at_any_tag : (op : Op) (row : Option Stored) (tag : Tag) → result_err (effect op row tag) ≡ cause_on op row
-cause_at_any_tag (Insert key props) None tag = refl
-cause_at_any_tag (Insert key props) (Some row) tag = refl
-cause_at_any_tag (Replace key props c) None tag = refl
-cause_at_any_tag (Replace key props c) (Some row) tag = chosen (meets c row.tag) _ _ _ refl
-cause_at_any_tag (Merge key props c) None tag = refl
-cause_at_any_tag (Merge key props c) (Some row) tag = chosen (meets c row.tag) (merges row.props props tag) (merges row.props props any_tag) (Err ConditionFailed) (merged_cause row.props props tag)
-cause_at_any_tag (Delete key c) None tag = refl
-cause_at_any_tag (Delete key c) (Some row) tag = refl
-cause_at_any_tag (InsertOrReplace key props) None tag = refl
-cause_at_any_tag (InsertOrReplace key props) (Some row) tag = refl
-cause_at_any_tag (InsertOrMerge key props) None tag = refl
-cause_at_any_tag (InsertOrMerge key props) (Some row) tag = merged_cause row.props props tag
 
 -- ---- refusals
 
 -- the least refusal of operations that are counted from i
-abbrev LeastFrom : ℕ → List Op → Table → Refusal → Type 0
+abbrev pub LeastFrom : ℕ → List Op → Table → Refusal → Type 0
 LeastFrom i ops table r =
     (k : ℕ) × (r.index ≡ i + k) × (k < length ops)
     × HoldsAt (λ op. cause_in table op ≡ Some r.cause) ops k
@@ -74,7 +54,7 @@ later i op ops table r none rest = (suc rest.0, (let at = rest.1 in omega arith)
   before zero below d = none
   before (suc j) below d = rest.4 j (omega arith) d
 
-least_from : (i : ℕ) (ops : List Op) (table : Table) (r : Refusal) → refusal_from i ops table ≡ Some r → LeastFrom i ops table r
+pub least_from : (i : ℕ) (ops : List Op) (table : Table) (r : Refusal) → refusal_from i ops table ≡ Some r → LeastFrom i ops table r
 least_from i [] table r h = absurd cc
 least_from i (op ∷ ops) table r h =
     elim (cause_in table op) as (λ o. cause_in table op ≡ o → option_or (option_map (refusal_at i) o) (refusal_from (i + 1) ops table) ≡ Some r → LeastFrom i (op ∷ ops) table r) [
@@ -84,17 +64,7 @@ least_from i (op ∷ ops) table r h =
       | None ↦ λ e h. later i op ops table r e (least_from (i + 1) ops table r h)
     ] refl h
 
-pub least : (ops : List Op) (table : Table) (r : Refusal) → refusal_of ops table ≡ Some r → IsLeast ops table r
-least ops table r h =
-    let found = least_from 0 ops table r h in
-    let at : found.0 ≡ r.index = (let is = found.1 in omega arith) in
-    record {
-      within = (let short = found.2 in omega arith);
-      refuses = λ d. subst (λ k. cause_in table (get_or ops k d) ≡ Some r.cause) at (found.3 d);
-      others = λ j below. found.4 j (omega arith);
-    }
-
-none_from : (i : ℕ) (ops : List Op) (table : Table) → refusal_from i ops table ≡ None → AllByRecursion (λ op. cause_in table op ≡ None) ops
+pub none_from : (i : ℕ) (ops : List Op) (table : Table) → refusal_from i ops table ≡ None → AllByRecursion (λ op. cause_in table op ≡ None) ops
 none_from i [] table h = tt
 none_from i (op ∷ ops) table h =
     elim (cause_in table op) as (λ o. cause_in table op ≡ o → option_or (option_map (refusal_at i) o) (refusal_from (i + 1) ops table) ≡ None → AllByRecursion (λ op. cause_in table op ≡ None) (op ∷ ops)) [
@@ -102,10 +72,7 @@ none_from i (op ∷ ops) table h =
       | None ↦ λ e h. (e, none_from (i + 1) ops table h)
     ] refl h
 
-pub none_refuses : (ops : List Op) (table : Table) → refusal_of ops table ≡ None → All (λ op. cause_in table op ≡ None) ops
-none_refuses ops table h = All-from_recursion (λ op. cause_in table op ≡ None) ops (none_from 0 ops table h)
-
-refuses_any : (i : ℕ) (ops : List Op) (table : Table) → is_some (refusal_from i ops table) ≡ list_any (λ op. is_some (cause_in table op)) ops
+pub refuses_any : (i : ℕ) (ops : List Op) (table : Table) → is_some (refusal_from i ops table) ≡ list_any (λ op. is_some (cause_in table op)) ops
 refuses_any i [] table = refl
 refuses_any i (op ∷ ops) table =
     elim (cause_in table op) as (λ o. is_some (option_or (option_map (refusal_at i) o) (refusal_from (i + 1) ops table)) ≡ (is_some o || list_any (λ op. is_some (cause_in table op)) ops)) [
@@ -113,20 +80,11 @@ refuses_any i (op ∷ ops) table =
       | None ↦ refuses_any (i + 1) ops table
     ]
 
-pub refused_alike : (ops others : List Op) (table : Table) → IsPermutation ops others → is_some (refusal_of others table) ≡ is_some (refusal_of ops table)
-refused_alike ops others table same =
-    refuses_any 0 others table
-    ∙ sym (list_any-IsPermutation (λ op. is_some (cause_in table op)) ops others same)
-    ∙ sym (refuses_any 0 ops table)
-
-same_from : (i : ℕ) (ops : List Op) (t u : Table) → AllByRecursion (λ op. t (op_key op) ≡ u (op_key op)) ops → refusal_from i ops t ≡ refusal_from i ops u
+pub same_from : (i : ℕ) (ops : List Op) (t u : Table) → AllByRecursion (λ op. t (op_key op) ≡ u (op_key op)) ops → refusal_from i ops t ≡ refusal_from i ops u
 same_from i [] t u h = refl
 same_from i (op ∷ ops) t u h =
     ap (λ row. option_or (option_map (refusal_at i) (cause_on op row)) (refusal_from (i + 1) ops t)) h.0
     ∙ ap (option_or (option_map (refusal_at i) (cause_in u op))) (same_from (i + 1) ops t u h.1)
-
-pub same_refusal : (ops : List Op) (t u : Table) → All (λ op. t (op_key op) ≡ u (op_key op)) ops → refusal_of ops t ≡ refusal_of ops u
-same_refusal ops t u h = same_from 0 ops t u (recursion_from_All (λ op. t (op_key op) ≡ u (op_key op)) ops h)
 
 -- ---- the operation of a key
 
@@ -141,7 +99,7 @@ differs_at key [] k d h below = absurd (omega arith)
 differs_at key (x ∷ xs) zero d h below = h.0
 differs_at key (x ∷ xs) (suc k) d h below = differs_at key xs k d h.1 (omega arith)
 
-find_alone : (xs : List Tagged) (o : Tagged) (k : ℕ) → Apart xs → k < length xs → get_or xs k o ≡ o → op_at xs (op_key o.0) ≡ Some o
+pub find_alone : (xs : List Tagged) (o : Tagged) (k : ℕ) → Apart xs → k < length xs → get_or xs k o ≡ o → op_at xs (op_key o.0) ≡ Some o
 unfolding IsDistinct
 find_alone [] o k apart below is = absurd (omega arith)
 find_alone (x ∷ xs) o zero apart below is = ap (λ (y : Tagged). op_at (x ∷ xs) (op_key y.0)) (sym is) ∙ ap (λ b. cond b (Some x) (op_at xs (op_key x.0))) (names_itself x.0) ∙ ap Some is
@@ -177,7 +135,7 @@ apart_reordered : (xs ys : List Tagged) → Apart xs → IsPermutation xs ys →
 apart_reordered xs ys apart same =
     IsDistinct-IsPermutation (eq_by_cmp key_cmp) (eq_by_cmp_equiv key_total).symm (map (λ o. op_key o.0) xs) (map (λ o. op_key o.0) ys) (IsPermutation-map (λ (o : Tagged). op_key o.0) xs ys same) apart
 
-same_op_at : (xs ys : List Tagged) (key : Key) → Apart xs → IsPermutation xs ys → op_at ys key ≡ op_at xs key
+pub same_op_at : (xs ys : List Tagged) (key : Key) → Apart xs → IsPermutation xs ys → op_at ys key ≡ op_at xs key
 same_op_at xs ys key apart same = go (op_at xs key) refl where
   go : (r : Option Tagged) → op_at xs key ≡ r → op_at ys key ≡ r
   go (Some o) e =
@@ -189,12 +147,12 @@ same_op_at xs ys key apart same = go (op_at xs key) refl where
 
 -- ---- batches
 
-firsts : (ops : List Op) (tags : List Tag) → length tags ≡ length ops → map (λ (o : Tagged). o.0) (zip ops tags) ≡ ops
+pub firsts : (ops : List Op) (tags : List Tag) → length tags ≡ length ops → map (λ (o : Tagged). o.0) (zip ops tags) ≡ ops
 firsts [] tags h = refl
 firsts (op ∷ ops) [] h = absurd (omega arith)
 firsts (op ∷ ops) (tag ∷ tags) h = ap (λ os. op ∷ os) (firsts ops tags (omega arith))
 
-first_keys : (ops : List Op) (tags : List Tag) → AreApart ops → Apart (zip ops tags)
+pub first_keys : (ops : List Op) (tags : List Tag) → AreApart ops → Apart (zip ops tags)
 unfolding IsDistinct
 first_keys [] tags h = tt
 first_keys (op ∷ ops) [] h = tt
@@ -204,12 +162,7 @@ first_keys (op ∷ ops) (tag ∷ tags) h = (some_keys (op_key op) ops tags h.0, 
   some_keys key (op ∷ ops) [] h = tt
   some_keys key (op ∷ ops) (tag ∷ tags) h = (h.0, some_keys key ops tags h.1)
 
-pub named_effect : (ops : List Op) (tags : List Tag) (table : Table) (op : Op) (tag : Tag) → AreApart ops → Contains (zip ops tags) (op, tag)
-    → batch_applied ops tags table (op_key op) ≡ left_by (effect op (table (op_key op)) tag) (table (op_key op))
-named_effect ops tags table op tag apart there =
-    ap (λ o. row_after o (table (op_key op))) (find_alone (zip ops tags) (op, tag) there.0 (first_keys ops tags apart) there.1 there.2)
-
-unnamed_at : (ops : List Op) (tags : List Tag) (key : Key) → list_any (names key) ops ≡ false → op_at (zip ops tags) key ≡ None
+pub unnamed_at : (ops : List Op) (tags : List Tag) (key : Key) → list_any (names key) ops ≡ false → op_at (zip ops tags) key ≡ None
 unnamed_at [] tags key h = refl
 unnamed_at (op ∷ ops) [] key h = refl
 unnamed_at (op ∷ ops) (tag ∷ tags) key h =
@@ -218,56 +171,30 @@ unnamed_at (op ∷ ops) (tag ∷ tags) key h =
       | false ↦ λ h. unnamed_at ops tags key h
     ] h
 
-by_refusal : (a b : Option Refusal) (applied other table : Table) → is_some a ≡ is_some b → IsSameTable applied other → IsSameTable (unless_refusal a applied table) (unless_refusal b other table)
+pub by_refusal : (a b : Option Refusal) (applied other table : Table) → is_some a ≡ is_some b → IsSameTable applied other → IsSameTable (unless_refusal a applied table) (unless_refusal b other table)
 by_refusal None None applied other table e same key = same key
 by_refusal None (Some y) applied other table e same key = absurd cc
 by_refusal (Some x) None applied other table e same key = absurd cc
 by_refusal (Some x) (Some y) applied other table e same key = refl
 
-unless_same : (r : Option Refusal) (applied table : Table) (key : Key) → applied key ≡ table key → unless_refusal r applied table key ≡ table key
+pub unless_same : (r : Option Refusal) (applied table : Table) (key : Key) → applied key ≡ table key → unless_refusal r applied table key ≡ table key
 unless_same None applied table key same = same
 unless_same (Some r) applied table key same = refl
 
-pub unnamed_stays : (ops : List Op) (tags : List Tag) (table : Table) (key : Key) → list_any (names key) ops ≡ false → table_after ops tags table key ≡ table key
-unnamed_stays ops tags table key h =
-    unless_same (refusal_of ops table) (batch_applied ops tags table) table key (ap (λ o. row_after o (table key)) (unnamed_at ops tags key h))
-
-pub reordered : (ops : List Op) (tags : List Tag) (others : List Op) (theirs : List Tag) (table : Table) → AreApart ops
-    → IsReordered ops tags others theirs → IsSameTable (table_after others theirs table) (table_after ops tags table)
-reordered ops tags others theirs table apart same =
-    let moved = IsPermutation-map (λ (o : Tagged). o.0) (zip ops tags) (zip others theirs) same.2 in
-    let moved_ops : IsPermutation ops others = subst (λ os. IsPermutation ops os) (firsts others theirs same.1) (subst (λ os. IsPermutation os (map (λ (o : Tagged). o.0) (zip others theirs))) (firsts ops tags same.0) moved) in
-    by_refusal (refusal_of others table) (refusal_of ops table) (batch_applied others theirs table) (batch_applied ops tags table) table
-    (refused_alike ops others table moved_ops)
-    (λ key. ap (λ o. row_after o (table key)) (same_op_at (zip ops tags) (zip others theirs) key (first_keys ops tags apart) same.2))
-
 -- ---- finite tables
 
-abbrev all_rows : List Op → List (Option Stored) → Rows → Rows
+abbrev pub all_rows : List Op → List (Option Stored) → Rows → Rows
 all_rows (op ∷ ops) (row ∷ left) rows = rows_with (all_rows ops left rows) (op_key op) row
 all_rows ops left rows = rows
 
-all_rising : (ops : List Op) (left : List (Option Stored)) (rows : Rows) → IsTrue (are_rising rows) → IsTrue (are_rising (all_rows ops left rows))
+pub all_rising : (ops : List Op) (left : List (Option Stored)) (rows : Rows) → IsTrue (are_rising rows) → IsTrue (are_rising (all_rows ops left rows))
 all_rising [] left rows h = h
 all_rising (op ∷ ops) [] rows h = h
 all_rising (op ∷ ops) (row ∷ left) rows h = rising_rows_with (all_rows ops left rows) (op_key op) row (all_rising ops left rows h)
 
-all_left : (ops : List Op) (left : List (Option Stored)) (rows : Rows) → IsSameTable (table_of (all_rows ops left rows)) (with_rows_left ops left (table_of rows))
+pub all_left : (ops : List Op) (left : List (Option Stored)) (rows : Rows) → IsSameTable (table_of (all_rows ops left rows)) (with_rows_left ops left (table_of rows))
 all_left [] left rows key = refl
 all_left (op ∷ ops) [] rows key = refl
 all_left (op ∷ ops) (row ∷ left) rows key =
     table_of-rows_with (all_rows ops left rows) (op_key op) row key
     ∙ ap (λ r. cond (eq_by_cmp key_cmp (op_key op) key) row r) (all_left ops left rows key)
-
-pub finite_after : (ops : List Op) (tags : List Tag) (table : Table) → IsFinite table → IsFinite (table_after ops tags table)
-finite_after ops tags table finite = go (refusal_of ops table) where
-  go : (r : Option Refusal) → IsFinite (unless_refusal r (batch_applied ops tags table) table)
-  go (Some r) = finite
-  go None = (
-    all_rows ops (rows_left ops tags table) finite.0,
-    all_rising ops (rows_left ops tags table) finite.0 finite.1,
-    λ key.
-        all_left ops (rows_left ops tags table) finite.0 key
-        ∙ with_same ops (rows_left ops tags table) (table_of finite.0) table finite.2 key
-        ∙ left_applied ops tags table key,
-  )

@@ -1,8 +1,12 @@
 pub mod KeyLaws
+pub mod Searches
+pub mod OneList
 pub mod RowLaws
 pub mod PutLaws
 pub mod JudgeLaws
 pub mod OrderLaws
 pub mod SearchLaws
-pub mod BatchLaws
+mod BatchLaws
+pub mod Theorems
 mod ModelLaws
+mod MergeLaws

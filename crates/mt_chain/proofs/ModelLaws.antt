@@ -1,5 +1,5 @@
 -- Rows that are left one after the other, and what they come to.
-use Rattle.std.proofs.Common.{◌≡◌, ℕ, suc, ◌+◌, ◌<◌, Bool, true, false, cond, ◌&&◌, List, [], ◌∷◌, ◌++◌, length, get_or, refl, sym, ap, ◌∙◌, arith, bytes_eq, IsTrue, Some, None, Option, Result, Ok, Err, OnOk}
+use Rattle.std.proofs.Common.{◌≡◌, suc, ◌<◌, Bool, true, false, cond, List, [], ◌∷◌, ◌++◌, length, get_or, refl, sym, ap, ◌∙◌, arith, IsTrue, Some, None, Option, Result, Ok, Err, OnOk}
 use Rattle.std.specs.List.{zip}
 use Rattle.std.specs.Ordering.{eq_by_cmp}
 use Rattle.mt_model.specs.declared.key.Key.{Key}
@@ -10,7 +10,7 @@ use Rattle.mt_chain.specs.declared.op.Op.{Op}
 use Rattle.mt_chain.specs.Rows.{Rows, are_rising}
 use Rattle.mt_chain.specs.Table.{Table, IsSameTable, table_of, with_entry}
 use Rattle.mt_chain.specs.Effect.{op_key, effect, left_by}
-use Rattle.mt_chain.specs.Batch.{batch_applied, op_at, row_after, Tagged}
+use Rattle.mt_chain.specs.Batch.{batch_applied, op_at, row_after}
 use Rattle.mt_chain.specs.Model.{rows_with, rows_left, with_rows_left}
 use Rattle.mt_chain.proofs.KeyLaws.{is_tied, key_ties}
 use Rattle.mt_chain.proofs.OrderLaws.{eq_equal}

@@ -2,7 +2,7 @@
 use Rattle.std.proofs.Common.{◌≡◌, ◌⊎◌, ℕ, ◌≤◌, Bool, true, false, not, ◌&&◌, ◌||◌, List, refl, sym, ap, ◌∙◌, subst, inl, inr, arith, bytes_eq, Some, None, Option, Less, Equal, Greater, Ordering}
 use Rattle.std.proofs.lemmas.Bool.{and_parts, or_cases, not-true}
 use Rattle.std.specs.Ordering.{nat_cmp, is_lt, is_le, is_eq, ordering_then, ordering_index, ordering_reverse}
-use Rattle.std.specs.Cmp.{IsTotalOrder, alike_right}
+use Rattle.std.specs.Cmp.{alike_right}
 use Rattle.std.specs.Cmp.Lexicographic.{slice_cmp, nat_list_cmp_total, nat_list_eq_equiv, texts_ties}
 use Rattle.mt_model.specs.declared.key.Key.{Key}
 use Rattle.mt_model.specs.Key.{key_cmp}
@@ -14,6 +14,7 @@ use Rattle.mt_chain.specs.declared.query.Range.{Range}
 use Rattle.mt_chain.specs.Rows.{is_from, is_upto, is_within, is_past}
 use Rattle.mt_chain.specs.Places.{is_before, is_not_past, is_passed}
 use Rattle.mt_chain.proofs.KeyLaws.{key_total, text_true}
+use Rattle.mt_chain.proofs.Searches.{climbs}
 
 abbrev text_cmp : List ℕ → List ℕ → Ordering
 text_cmp = slice_cmp nat_cmp
@@ -155,23 +156,11 @@ in_range pk range key = go (text_cmp key.pk pk) refl where
 abbrev pub RisesByKey : (Key → Ordering) → Type 0
 RisesByKey ord = (x y : Key) → key_cmp x y ≡ Less → ordering_index (ord x) ≤ ordering_index (ord y)
 
-total_rises : {K : Type 0} (R : K → K → Ordering) → IsTotalOrder R → (x y k : K) → R x y ≡ Less → ordering_index (R x k) ≤ ordering_index (R y k)
-total_rises {K} R o x y k l = go (R y k) refl where
-  small : (r : Ordering) → ordering_index r ≤ 2
-  small Less = omega arith
-  small Equal = omega arith
-  small Greater = omega arith
-
-  go : (r : Ordering) → R y k ≡ r → ordering_index (R x k) ≤ ordering_index r
-  go Less e = (let same = ap ordering_index (o.trans x y k l e) in omega (arith, same))
-  go Equal e = (let same = ap ordering_index (sym (alike_right o y k x e) ∙ l) in omega (arith, same))
-  go Greater e = small (R x k)
-
 pub key_rises : (key : Key) → RisesByKey (λ x. key_cmp x key)
-key_rises key x y l = total_rises key_cmp key_total x y key l
+key_rises key x y less = climbs key_total (λ k. k) key x y less
 
 pub partition_rises : (pk : List ℕ) → RisesByKey (λ x. text_cmp x.pk pk)
 partition_rises pk x y l = elim (key_less x y l) as (λ _. ordering_index (text_cmp x.pk pk) ≤ ordering_index (text_cmp y.pk pk)) [
-  | inl less ↦ total_rises text_cmp nat_list_cmp_total x.pk y.pk pk less
+  | inl less ↦ climbs nat_list_cmp_total (λ a. a) pk x.pk y.pk less
   | inr same ↦ (let e = ap (λ a. ordering_index (text_cmp a pk)) same.0 in omega (arith, e))
 ]

@@ -1,9 +1,10 @@
 -- What is at a key after a row was put or taken out, and what partitions there are.
-use Rattle.std.proofs.Common.{◌≡◌, ◌≢◌, ℕ, Bool, true, false, cond, not, ◌&&◌, ◌||◌, List, [], ◌∷◌, refl, sym, ap, ◌∙◌, T, bytes_eq, IsTrue, Some, None}
+use Rattle.std.proofs.Common.{◌≡◌, ◌≢◌, ℕ, Bool, true, false, cond, not, ◌&&◌, ◌||◌, List, [], ◌∷◌, refl, sym, ap, ◌∙◌, T, bytes_eq, IsTrue, Some, None, Result, Ok, Err, OnOk, OnErr, subst}
 use Rattle.std.specs.Ordering.{eq_by_cmp, is_eq}
 use Rattle.std.specs.Cmp.{eq_by_cmp_equiv, alike_right}
 use Rattle.std.specs.FinMap.Entries.{find-put, find-where_key, is_sorted-put, is_sorted-where_key, same_entries}
 use Rattle.mt_model.specs.Key.{key_cmp}
+use Rattle.mt_model.specs.declared.NoMemory.{NoMemory}
 use Rattle.mt_chain.specs.declared.row.Stored.{Stored}
 use Rattle.mt_chain.specs.Rows.{Rows, key_at, are_rising, row_at, with_row, without_row, has_partition}
 use Rattle.mt_chain.proofs.KeyLaws.{key_total, is_tied, is_same_key, text_true, text_same, key_ties}
@@ -118,3 +119,9 @@ same_partitions rows others pk is = go (has_partition rows pk) (has_partition ot
   go false false ex ey = refl
   go true false ex ey = (let r = row_of_partition rows pk ex in let none = sym (no_partition others pk r.0 ey) ∙ sym (is r.0) ∙ r.2 in absurd cc)
   go false true ex ey = (let r = row_of_partition others pk ey in let none = sym (no_partition rows pk r.0 ex) ∙ is r.0 ∙ r.2 in absurd cc)
+
+-- ---- the end of a put
+
+pub rising_put : (r : Result (Unit {0}) NoMemory) (old new : Rows) (pk rk : List ℕ) (s : Stored) → OnOk r (new ≡ with_row old pk rk s) → OnErr r (new ≡ old) → IsTrue (are_rising old) → IsTrue (are_rising new)
+rising_put (Ok u) old new pk rk s is same h = subst (λ rs. IsTrue (are_rising rs)) (sym is) (rising_with_row old pk rk s h)
+rising_put (Err e) old new pk rk s is same h = subst (λ rs. IsTrue (are_rising rs)) (sym same) h

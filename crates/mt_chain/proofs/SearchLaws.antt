@@ -1,8 +1,9 @@
 -- What stands at the place where a search ended.
-use Rattle.std.proofs.Common.{◌≡◌, ℕ, zero, suc, ◌-◌, ◌<◌, ◌≤◌, Bool, true, false, cond, not, ◌&&◌, ◌||◌, List, [], ◌∷◌, length, take, drop, get_or, set, insert, remove, filter, refl, sym, ap, ◌∙◌, inl, inr, arith, bytes_eq, Some, None, Less, Equal, Greater, Ordering, Result, Ok, Err, is_ok}
-use Rattle.std.proofs.lemmas.Bool.{and_parts, cases_lt, cases_eq}
-use Rattle.std.specs.List.{list_any}
-use Rattle.std.specs.List.Sorted.{IsNonDecreasingBy, IsPartitionedBy, IsPartitionPoint, IsBinarySearchResult, IsSearchInRange}
+use Rattle.std.proofs.Common.{◌≡◌, ℕ, zero, suc, ◌-◌, ◌<◌, Bool, true, false, cond, not, ◌&&◌, ◌||◌, List, [], ◌∷◌, map, length, take, drop, get_or, set, insert, remove, filter, refl, sym, ap, ◌∙◌, inl, inr, arith, bytes_eq, Some, None, Less, Equal, Greater, Ordering, Result, Ok, Err, is_ok, option_map}
+use Rattle.std.proofs.lemmas.List.{get_or_default}
+use Rattle.std.proofs.lemmas.Bool.{and_parts, cases_lt}
+use Rattle.std.specs.List.{list_any, AllByRecursion, find as first_where}
+use Rattle.std.specs.List.Sorted.{IsStrictlySortedBy, IsNonDecreasingBy, IsPartitionedBy, IsPartitionPoint, IsBinarySearchResult, IsSearchInRange}
 use Rattle.std.specs.Ordering.{nat_cmp, is_lt, is_eq, eq_by_cmp, ordering_index}
 use Rattle.std.specs.Cmp.{alike_right, tied_back}
 use Rattle.std.specs.Cmp.Lexicographic.{slice_cmp, nat_list_eq_equiv, texts_ties}
@@ -14,6 +15,7 @@ use Rattle.mt_chain.specs.Rows.{Rows, are_rising, has_partition}
 use Rattle.mt_chain.specs.Places.{EndsAt, IsCut}
 use Rattle.mt_chain.proofs.KeyLaws.{key_total, key_ties}
 use Rattle.mt_chain.proofs.OrderLaws.{lt_less, reversed, FallsByKey, RisesByKey}
+use Rattle.mt_chain.proofs.Searches.{pairs_below, rises_along, falls_along, search_ends_by, key_found, key_absent}
 
 -- the key and the row of an entry
 abbrev Entry : Type 0
@@ -30,38 +32,59 @@ below_at x [] k d h l = absurd (omega arith)
 below_at x (e ∷ rows) zero d h l = lt_less _ (and_parts (is_lt (key_cmp x e.0)) (below_all key_cmp x rows) h).0
 below_at x (e ∷ rows) (suc k) d h l = below_at x rows k d (and_parts (is_lt (key_cmp x e.0)) (below_all key_cmp x rows) h).1 (omega arith)
 
+-- rows rise by `are_rising` as their keys do by std's word for lists
+pub keys_sorted : (rows : Rows) → are_rising rows ≡ true → IsStrictlySortedBy key_cmp (map (λ e. e.0) rows)
+unfolding IsStrictlySortedBy
+keys_sorted [] h = tt
+keys_sorted (e ∷ rows) h = (all_below e.0 rows (head_below e rows h), keys_sorted rows (rest_rising e rows h)) where
+  all_below : (x : Key) (rows : Rows) → below_all key_cmp x rows ≡ true → AllByRecursion (λ y. key_cmp x y ≡ Less) (map (λ (f : Entry). f.0) rows)
+  all_below x [] h = tt
+  all_below x (f ∷ rows) h = (let parts = and_parts (is_lt (key_cmp x f.0)) (below_all key_cmp x rows) h in (lt_less _ parts.0, all_below x rows parts.1))
+
+pub sorted_rising : (rows : Rows) → IsStrictlySortedBy key_cmp (map (λ e. e.0) rows) → are_rising rows ≡ true
+unfolding IsStrictlySortedBy
+sorted_rising [] h = refl
+sorted_rising (e ∷ rows) h = both (below e.0 rows h.0) (sorted_rising rows h.1) where
+  both : {a b : Bool} → a ≡ true → b ≡ true → (a && b) ≡ true
+  both {a} {b} p q = ap (λ t. t && b) p ∙ q
+
+  below : (x : Key) (rows : Rows) → AllByRecursion (λ y. key_cmp x y ≡ Less) (map (λ (f : Entry). f.0) rows) → below_all key_cmp x rows ≡ true
+  below x [] h = refl
+  below x (f ∷ rows) h = both (ap is_lt h.0) (below x rows h.1)
+
 -- the key at a later place is greater
 pub rises : (rows : Rows) (i j : ℕ) (d : Entry) → are_rising rows ≡ true → i < j → j < length rows → key_cmp (get_or rows i d).0 (get_or rows j d).0 ≡ Less
-rises [] i j d h ij jl = absurd (omega arith)
-rises (e ∷ rows) i zero d h ij jl = absurd (omega arith)
-rises (e ∷ rows) zero (suc j) d h ij jl = below_at e.0 rows j d (head_below e rows h) (omega arith)
-rises (e ∷ rows) (suc i) (suc j) d h ij jl = rises rows i j d (rest_rising e rows h) (omega arith) (omega arith)
+rises rows i j d h ij jl = pairs_below key_total (λ (e : Entry). e.0) rows (keys_sorted rows h) i j d ij jl
 
 pub searchable : (ord : Key → Ordering) → RisesByKey ord → (rows : Rows) → are_rising rows ≡ true → IsNonDecreasingBy (λ (e : Entry). ordering_index (ord e.0)) rows
-searchable ord up rows h i j d le jl = elim (cases_eq i j) as (λ _. ordering_index (ord (get_or rows i d).0) ≤ ordering_index (ord (get_or rows j d).0)) [
-  | inl same ↦ (let e = ap (λ k. ordering_index (ord (get_or rows k d).0)) same in omega (arith, e))
-  | inr ne ↦ up (get_or rows i d).0 (get_or rows j d).0 (rises rows i j d h (omega (arith, ne)) jl)
-]
+searchable ord up rows h = rises_along (λ e f. key_cmp e.0 f.0 ≡ Less) (λ e. ord e.0) (λ e f. up e.0 f.0) rows (λ i j d. rises rows i j d h)
 
 pub partitioned : (test : Key → Bool) → FallsByKey test → (rows : Rows) → are_rising rows ≡ true → IsPartitionedBy (λ (e : Entry). test e.0) rows
-partitioned test falls rows h i j d le jl passes = elim (cases_eq i j) as (λ _. test (get_or rows i d).0 ≡ true) [
-  | inl same ↦ ap (λ k. test (get_or rows k d).0) same ∙ passes
-  | inr ne ↦ falls (get_or rows i d).0 (get_or rows j d).0 (rises rows i j d h (omega (arith, ne)) jl) passes
-]
+partitioned test falls rows h = falls_along (λ e f. key_cmp e.0 f.0 ≡ Less) (λ e. test e.0) (λ e f. falls e.0 f.0) rows (λ i j d. rises rows i j d h)
 
 pub search_ends : (ord : Key → Ordering) → RisesByKey ord → (rows : Rows) (r : Result ℕ ℕ) → are_rising rows ≡ true → IsSearchInRange r (length rows) → IsBinarySearchResult (λ (e : Entry). ord e.0) rows r → EndsAt ord rows r
-search_ends ord up rows (Ok at) h bound found = (bound, found)
-search_ends ord up rows (Err at) h bound found = (bound, found (searchable ord up rows h))
+search_ends ord up rows r h bound found = search_ends_by (λ e. ord e.0) rows r (searchable ord up rows h) bound found
 
 -- ---- look-ups
 
+-- the row at a key is that of the first entry with the key
+pub find_entry : (key : Key) (rows : Rows) → find key_cmp key rows ≡ option_map (λ (e : Entry). e.1) (first_where (λ (e : Entry). eq_by_cmp key_cmp key e.0) rows)
+find_entry key [] = refl
+find_entry key (e ∷ rows) = elim (eq_by_cmp key_cmp key e.0) as (λ b. cond b (Some e.1) (find key_cmp key rows) ≡ option_map (λ (f : Entry). f.1) (cond b (Some e) (first_where (λ (f : Entry). eq_by_cmp key_cmp key f.0) rows))) [
+  | true ↦ refl
+  | false ↦ find_entry key rows
+]
+
 pub find_at : (key : Key) (rows : Rows) (at : ℕ) (d : Entry) → are_rising rows ≡ true → at < length rows → key_cmp (get_or rows at d).0 key ≡ Equal → find key_cmp key rows ≡ Some (get_or rows at d).1
-find_at key [] at d h l tie = absurd (omega arith)
-find_at key (e ∷ rows) zero d h l tie = ap (λ o. cond (is_eq o) (Some e.1) (find key_cmp key rows)) (tied_back key_total e.0 key tie)
-find_at key (e ∷ rows) (suc at) d h l tie =
-    let below = below_at e.0 rows at d (head_below e rows h) (omega arith) in
-    let less = sym (alike_right key_total (get_or rows at d).0 key e.0 tie) ∙ below in
-    ap (λ o. cond (is_eq o) (Some e.1) (find key_cmp key rows)) (reversed e.0 key Less less) ∙ find_at key rows at d (rest_rising e rows h) (omega arith) tie
+find_at key rows at d h within tie =
+    find_entry key rows
+    ∙ ap (option_map (λ (e : Entry). e.1)) (key_found key_total (λ (e : Entry). e.0) key (λ e. eq_by_cmp key_cmp key e.0) (λ e. refl) rows at d (keys_sorted rows h)
+    (within, λ e. ap (λ (x : Entry). key_cmp x.0 key) (get_or_default rows at e d within) ∙ tie))
+
+pub find_gap : (key : Key) (rows : Rows) (at : ℕ) → EndsAt (λ k. key_cmp k key) rows (Err at) → find key_cmp key rows ≡ None
+find_gap key rows at ends =
+    find_entry key rows
+    ∙ ap (option_map (λ (e : Entry). e.1)) (key_absent key_total (λ (e : Entry). e.0) key (λ e. eq_by_cmp key_cmp key e.0) (λ e. refl) rows at ends)
 
 -- no row ties with the key
 abbrev NoTie : Key → Rows → Type 0
@@ -75,13 +98,6 @@ no_tie key rows at cut k d l = elim (cases_lt k at) as (λ _. eq_by_cmp key_cmp 
 
 rest_no_tie : (key : Key) (e : Entry) (rows : Rows) → NoTie key (e ∷ rows) → NoTie key rows
 rest_no_tie key e rows none k d l = none (suc k) d (omega arith)
-
-find_none : (key : Key) (rows : Rows) → NoTie key rows → find key_cmp key rows ≡ None
-find_none key [] none = refl
-find_none key (e ∷ rows) none = ap (λ b. cond b (Some e.1) (find key_cmp key rows)) (none 0 e (omega arith)) ∙ find_none key rows (rest_no_tie key e rows none)
-
-pub find_gap : (key : Key) (rows : Rows) (at : ℕ) → EndsAt (λ k. key_cmp k key) rows (Err at) → find key_cmp key rows ≡ None
-find_gap key rows at ends = find_none key rows (no_tie key rows at ends.1)
 
 -- ---- partitions
 

@@ -1,5 +1,5 @@
 -- A store call as a value: what may be asked, and what an answer says of the store.
-use Rattle.std.specs.Prelude.{◌≡◌, ℕ, ◌<◌, Bool, true, false, IsTrue, IfSome, List, length, Result, Ok, Err}
+use Rattle.std.specs.Prelude.{◌≡◌, ℕ, ◌<◌, Bool, true, false, IsTrue, IfSome, length, Result, Ok, Err}
 use Rattle.mt_chain.specs.declared.ask.Ask.{Ask}
 use Rattle.mt_chain.specs.declared.ask.Ask.TheVariants as ask
 use Rattle.mt_chain.specs.declared.ask.StoreReply.{StoreReply}

@@ -1,5 +1,5 @@
 -- What one operation does to the row at its key.
-use Rattle.std.specs.Prelude.{ℕ, Bool, true, List, [], Option, Some, None, option_map, Result, Ok, Err, if◌then◌else◌}
+use Rattle.std.specs.Prelude.{Bool, true, List, [], Option, Some, None, option_map, Result, Ok, Err, if◌then◌else◌}
 use Rattle.std.specs.Option.{option_or}
 use Rattle.std.specs.Result.{result_err}
 use Rattle.mt_model.specs.declared.key.Key.{Key}

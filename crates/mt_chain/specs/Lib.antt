@@ -8,4 +8,5 @@ pub mod Places
 pub mod Table
 pub mod Effect
 pub mod Batch
+pub mod Merges
 pub mod Model

@@ -1,5 +1,5 @@
 -- What the plain program for operations and batches answers: the definitions, or want of memory.
-use Rattle.std.specs.Prelude.{◌≡◌, IsTrue, List, [], ◌∷◌, Option, Some, None, Result, Ok, Err}
+use Rattle.std.specs.Prelude.{◌≡◌, List, [], ◌∷◌, Option, Some, None, Result, Ok, Err}
 use Rattle.std.specs.Global.{Vec}
 use Rattle.mt_model.specs.declared.key.Key.{Key}
 use Rattle.mt_model.specs.declared.tag.Tag.{Tag}
@@ -10,7 +10,7 @@ use Rattle.mt_chain.specs.declared.model.EffectFault.TheVariants as effect_fault
 use Rattle.mt_chain.specs.declared.model.ApplyFault.{ApplyFault}
 use Rattle.mt_chain.specs.declared.model.ApplyFault.TheVariants as apply_fault
 use Rattle.mt_chain.specs.declared.model.Applied.{Applied}
-use Rattle.mt_chain.specs.Rows.{Rows, are_rising, with_row, without_row}
+use Rattle.mt_chain.specs.Rows.{Rows, with_row, without_row}
 use Rattle.mt_chain.specs.Table.{Table, IsSameTable, table_of, with_entry}
 use Rattle.mt_chain.specs.Effect.{Outcome, op_key, effect, left_by}
 use Rattle.mt_chain.specs.Batch.{refusal_of, batch_applied, tags_answered}
@@ -45,8 +45,7 @@ Judges rows ops tags (Err apply_fault.NoMemory) = Unit {0}
 -- no operation was refused, and these are the table's rows after the batch, with the tags that it is answered
 pub record IsApplied (before : Rows) (ops : List Op) (given : List Tag) (applied : Applied) : Type 0 where
   pub allowed : refusal_of ops (table_of before) ≡ None
-  pub rising : IsTrue (are_rising applied.rows.items)
-  pub rows : IsSameTable (table_of applied.rows.items) (batch_applied ops given (table_of before))
+  pub rows : IsSameTable (table_of applied.rows) (batch_applied ops given (table_of before))
   pub tags : applied.tags.items ≡ tags_answered ops given (table_of before)
 
 -- the answer to a batch: what it does to the rows, or the least refusal, or want of memory

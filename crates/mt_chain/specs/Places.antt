@@ -11,10 +11,14 @@ use Rattle.mt_chain.specs.declared.query.RkFrom.{RkFrom}
 use Rattle.mt_chain.specs.declared.query.PkFrom.{PkFrom}
 use Rattle.mt_chain.specs.Rows.{Rows, is_from, is_upto, is_past}
 
--- where a search by `ord`, which rises along the rows, ends: at a row that is Equal, or between the Less and the Greater
+-- where a search by `ord`, which rises along the list, ends: at an element that is Equal, or between the Less and the Greater
+abbrev pub EndsBy : {X : Type 0} → (X → Ordering) → List X → Result ℕ ℕ → Type 0
+EndsBy ord xs (Ok at) = (at < length xs) × HoldsAt (λ x. ord x ≡ Equal) xs at
+EndsBy ord xs (Err at) = (at ≤ length xs) × IsPartitionPoint (λ x. ord x ≡ Less) (λ x. ord x ≡ Greater) xs at
+
+-- the same for a search among rows by their keys
 abbrev pub EndsAt : (Key → Ordering) → Rows → Result ℕ ℕ → Type 0
-EndsAt ord rows (Ok at) = (at < length rows) × HoldsAt (λ e. ord e.0 ≡ Equal) rows at
-EndsAt ord rows (Err at) = (at ≤ length rows) × IsPartitionPoint (λ e. ord e.0 ≡ Less) (λ e. ord e.0 ≡ Greater) rows at
+EndsAt ord rows r = EndsBy (λ e. ord e.0) rows r
 
 -- all rows before the place pass, and none from it on
 abbrev pub IsCut : (Key → Bool) → Rows → ℕ → Type 0

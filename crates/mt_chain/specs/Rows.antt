@@ -1,6 +1,7 @@
 -- The rows of a store: a list of entries in the order of their keys.
 use Rattle.std.specs.Prelude.{ℕ, Bool, true, false, not, ◌&&◌, nat_lt, bytes_eq, List, map, filter, take, length, Option, None, Some, option_map}
-use Rattle.std.specs.List.{list_any, filter_map}
+use Rattle.std.specs.List.{list_any, filter_map, find as first_where}
+use Rattle.std.specs.List.Sorted.{IsStrictlySortedBy}
 use Rattle.std.specs.Ordering.{nat_cmp, is_lt, is_le, eq_by_cmp}
 use Rattle.std.specs.Cmp.Lexicographic.{slice_cmp}
 use Rattle.std.specs.FinMap.Entries.{find, put, where_key, is_sorted}
@@ -35,6 +36,16 @@ with_row rows pk rk stored = put key_cmp (key_at pk rk) stored rows
 -- the rows but for the one at a key
 abbrev pub without_row : Rows → List ℕ → List ℕ → Rows
 without_row rows pk rk = where_key key_cmp (λ k. not (eq_by_cmp key_cmp (key_at pk rk) k)) rows
+
+-- ---- rows of one partition
+
+-- each row key is below those after it
+abbrev pub RisingRows : List StoredRow → Type 0
+RisingRows rows = IsStrictlySortedBy (slice_cmp nat_cmp) (map (λ s. s.rk) rows)
+
+-- the row of that row key
+abbrev pub row_in : List StoredRow → List ℕ → Option StoredRow
+row_in rows rk = first_where (λ (r : StoredRow). bytes_eq rk r.rk) rows
 
 -- some row has that partition key
 abbrev pub has_partition : Rows → List ℕ → Bool

@@ -2,17 +2,19 @@
 #![tactic(auto)]
 
 mod ask;
+mod cause;
 mod depot;
 mod keeper;
-pub mod laws;
 pub mod model;
 mod op;
 mod query;
 mod row;
+mod rows;
 
 pub use ask::{Ask, CallFault, Side, StoreAsk, StoreReply};
 pub use depot::{Depot, DepotFault};
 pub use keeper::{KeepFault, Keeper};
 pub use op::{Cause, Cond, Op, Refusal};
-pub use query::{Found, Next, PkFrom, Range, RangeQuery, RkFrom};
+pub use query::{Found, Next, PkFrom, Range, RangeQuery, RkFrom, is_upto};
 pub use row::{Put, Puts, Stored, StoredRow, StoredRows, Tags};
+pub use rows::{Row, Rows};

@@ -1,7 +1,7 @@
 //! Operations on single rows, as a client asks for them.
 ghost use Rattle.std.specs.Prelude.{◌≡◌, ◌^◌, ◌-◌, min, IfOk, IsTrue, ◌↔◌};
 ghost use Rattle.mt_model.specs.Props.{visible_size};
-ghost use Rattle.mt_chain.specs.Effect.{op_key, op_props};
+ghost use Rattle.mt_chain.specs.Effect.{op_key, op_props, meets};
 ghost use Rattle.mt_chain.specs.Batch.{op_size};
 
 use mt_model::{Key, NoMemory, Props, Tag};
@@ -54,6 +54,18 @@ pub struct Refusal {
     /// Counted from 0.
     pub index: u32,
     pub cause: Cause,
+}
+
+impl Cond {
+    /// Whether a row of that tag meets the condition.
+    pub fn is_met_by(self, tag: Tag) -> bool
+        ensures { result ≡ meets self tag }
+    {
+        match self {
+            Cond::Any => true,
+            Cond::Is(wanted) => wanted == tag,
+        }
+    }
 }
 
 impl Op {

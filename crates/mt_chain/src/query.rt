@@ -1,3 +1,6 @@
+ghost use Rattle.std.specs.Prelude.{◌≡◌};
+ghost use Rattle.mt_chain.specs.Rows.{is_from, is_upto, is_within, is_past};
+
 use crate::row::StoredRows;
 use mt_model::{Text, Texts};
 
@@ -58,4 +61,48 @@ pub struct Found {
 pub struct Next {
     pub pk: Option<Text>,
     pub sealed: bool,
+}
+
+impl RkFrom {
+    /// Whether a row key lies at or after this place.
+    pub fn admits(&self, rk: &Text) -> bool
+        ensures { result ≡ is_from self.now rk.now }
+    {
+        match self {
+            RkFrom::Start => true,
+            RkFrom::From(low) => low <= rk,
+            RkFrom::After(low) => low < rk,
+        }
+    }
+}
+
+impl PkFrom {
+    /// Whether a partition key lies at or after this place.
+    pub fn admits(&self, pk: &Text) -> bool
+        ensures { result ≡ is_past self.now pk.now }
+    {
+        match self {
+            PkFrom::From(low) => low <= pk,
+            PkFrom::After(low) => low < pk,
+        }
+    }
+}
+
+/// Whether a row key does not lie past the end of a range, which belongs to it.
+pub fn is_upto(upto: &Option<Text>, rk: &Text) -> bool
+    ensures { result ≡ is_upto upto.now rk.now }
+{
+    match upto {
+        None => true,
+        Some(high) => rk <= high,
+    }
+}
+
+impl Range {
+    /// Whether a row key lies in the range.
+    pub fn contains(&self, rk: &Text) -> bool
+        ensures { result ≡ is_within self.now rk.now }
+    {
+        self.from.admits(rk) && is_upto(&self.upto, rk)
+    }
 }

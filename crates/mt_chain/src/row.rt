@@ -1,9 +1,11 @@
-ghost use Rattle.std.specs.Prelude.{◌≡◌, map};
-ghost use Rattle.std.specs.List.Sorted.{IsStrictlySortedBy};
+ghost use Rattle.std.specs.Prelude.{◌≡◌, option_copied};
 ghost use Rattle.std.specs.Ordering.{nat_cmp};
 ghost use Rattle.std.specs.Cmp.Lexicographic.{slice_cmp};
+ghost use Rattle.mt_chain.specs.Rows.{RisingRows, row_in};
+ghost use Rattle.mt_chain.specs.Places.{EndsBy};
 
 use mt_model::{Props, Tag, Text};
+use std::cmp::Ordering;
 use std::marker::Model;
 
 /// What a store keeps at a key: the properties, hidden ones among them, and the tag that it gave.
@@ -110,23 +112,44 @@ pub struct StoredRows {
 }
 
 impl Model for StoredRows {
-    ghost use Rattle.std.specs.Prelude.{List, map};
-    ghost use Rattle.std.specs.List.Sorted.{IsStrictlySortedBy};
-    ghost use Rattle.std.specs.Ordering.{nat_cmp};
-    ghost use Rattle.std.specs.Cmp.Lexicographic.{slice_cmp};
+    ghost use Rattle.std.specs.Prelude.{List};
     ghost use Rattle.mt_chain.specs.declared.row.StoredRow.{StoredRow};
+    ghost use Rattle.mt_chain.specs.Rows.{RisingRows};
 
     ghost Value = { List StoredRow };
 
     ghost view = { λ r. r.items.items };
 
-    ghost invariant = { λ r. IsStrictlySortedBy (slice_cmp nat_cmp) (map (λ s. s.rk) r.items.items) };
+    ghost invariant = { λ r. RisingRows r.items.items };
+}
+
+/// The place of the row of a row key, or where one would stand.
+fn place_of(rows: &[StoredRow], rk: &str) -> Result<usize, usize>
+    requires { RisingRows rows.now }
+    ensures { EndsBy (λ r. slice_cmp nat_cmp r.rk rk.now) rows.now result }
+{
+    rows.binary_search_by(
+        |row: &StoredRow| -> Ordering
+            ensures { result ≡ slice_cmp nat_cmp row.now.rk rk.entry.now }
+        { row.rk.as_str().cmp(rk) },
+    )
+}
+
+/// The row of a row key.
+fn found_in<'a>(rows: &'a [StoredRow], rk: &str) -> Option<&'a StoredRow>
+    requires { RisingRows rows.now }
+    ensures { option_copied result ≡ row_in rows.now rk.now }
+{
+    match place_of(rows, rk) {
+        Ok(at) => Some(&rows[at]),
+        Err(_) => None,
+    }
 }
 
 impl StoredRows {
     /// These rows, whose row keys rise.
     pub fn of(items: Vec<StoredRow>) -> StoredRows
-        requires { IsStrictlySortedBy (slice_cmp nat_cmp) (map (λ s. s.rk) items.items) }
+        requires { RisingRows items.items }
         ensures { result ≡ items.items }
     {
         StoredRows { items }
@@ -135,7 +158,7 @@ impl StoredRows {
     /// The rows in order.
     pub fn as_slice(&self) -> &[StoredRow]
         ensures value { result.now ≡ self.now }
-        ensures rising { IsStrictlySortedBy (slice_cmp nat_cmp) (map (λ s. s.rk) self.now) }
+        ensures rising { RisingRows self.now }
     {
         self.items.as_slice()
     }
@@ -143,8 +166,15 @@ impl StoredRows {
     /// The rows in order, without taking memory.
     pub fn into_items(self) -> Vec<StoredRow>
         ensures value { result.items ≡ self }
-        ensures rising { IsStrictlySortedBy (slice_cmp nat_cmp) (map (λ s. s.rk) self) }
+        ensures rising { RisingRows self }
     {
         self.items
+    }
+
+    /// The row of a row key, found by binary search.
+    pub fn get(&self, rk: &str) -> Option<&StoredRow>
+        ensures { option_copied result ≡ row_in self.now rk.now }
+    {
+        found_in(&self.items, rk)
     }
 }

@@ -3,6 +3,7 @@ use Rattle.std.proofs.Common.{◌≡◌, ◌≢◌, ◌⊎◌, ℕ, ◌<◌, ◌
 use Rattle.std.specs.Prelude.{option_map, is_some, IfSome}
 use Rattle.mt_model.specs.declared.tag.Tag.{Tag}
 use Rattle.mt_model.specs.declared.value.Prop.{Prop}
+use Rattle.mt_chain.specs.declared.ask.Side.TheVariants.{Old, New}
 use Rattle.mt_chain.specs.declared.row.Stored.{Stored}
 use Rattle.mt_chain.specs.declared.row.StoredRow.{StoredRow}
 use Rattle.mt_chain.specs.declared.query.PkFrom.{PkFrom}
@@ -14,14 +15,13 @@ use Rattle.mt_meta.specs.Marks.{mark_of}
 use Rattle.mt_meta.specs.Logical.{Pair, NoOld, shown_as, from_old, old_state, new_state, new_says, old_at, new_at, old_state_at, new_state_at}
 use Rattle.mt_meta.specs.Sound.{IsSound}
 use Rattle.mt_meta.specs.Modes.{Mode, Empty, AtOld, Prepared, Copying, Overlaid, Settled, NewOnly, Broken, mode, rank, FitsMode}
-use Rattle.mt_meta.specs.Facts.{Keys, NoKeys, Named, Within, InKeys, HasKeys, Fact, InOld, InNew, RowIs, Kept, Begun, There, Turned, Closed, Moved, Epoch, Clean, Swept, Retired, is_begun, is_there, is_prefer_new, is_marked, is_filling, is_use_new, row_in, KnowsRow, KnowsKept, KnowsTurned, Exact, KnowsEpoch, KnowsClean, KnowsSwept, Holds, Apart, ApartFrom, EntryStays, Ages, Grows}
+use Rattle.mt_meta.specs.declared.fact.Keys.{Keys}
+use Rattle.mt_meta.specs.declared.fact.Keys.TheVariants as keys
+use Rattle.mt_meta.specs.declared.fact.Fact.{Fact}
+use Rattle.mt_meta.specs.declared.fact.Fact.TheVariants.{Row, Kept, Begun, There, Turned, Closed, Moved, Epoch, Clean, Swept, Retired}
+use Rattle.mt_meta.specs.Facts.{InKeys, is_begun, is_there, is_prefer_new, is_marked, is_filling, is_use_new, row_in, KnowsRow, KnowsKept, KnowsTurned, Exact, KnowsEpoch, KnowsClean, KnowsSwept, Holds, Apart, ApartFrom, EntryStays, Ages, Grows}
 use Rattle.mt_meta.proofs.Rules.{to_modes, key_cases}
 use Rattle.mt_meta.proofs.ModeLaws.{old_in, says, begun_rank, there_rank, marked_rank, use_new_rank, up, rank_from, filling_ranks, prefer_new_ranks, ranks_filling, is_overlaid, overlaid_turned}
-
-has_in : (keys : Keys) (rk : List ℕ) → InKeys keys rk → HasKeys keys
-has_in NoKeys rk h = h
-has_in (Named ks) rk h = tt
-has_in (Within a b c) rk h = tt
 
 pub ages_self : (a : Contents) → Ages a a
 ages_self a = record { counter = omega arith; past = λ pk rk r is le. is }
@@ -92,8 +92,8 @@ stays_turned own p q pk s t g marked fills =
           (is_overlaid (mode p pk) r.0 (omega (arith, now.1, le)), is_overlaid (mode q pk) (omega (arith, r.0, le)) now.1));
     }
 
-turned_kept : (own : List Fact) (p q : Pair) (pk : List ℕ) (keys : Keys) (rows : List StoredRow) → IsSound p → IsSound q → Grows own p q → KnowsTurned p pk keys rows → KnowsTurned q pk keys rows
-turned_kept own p q pk keys rows s t g h = record {
+turned_kept : (own : List Fact) (p q : Pair) (pk : List ℕ) (part : Keys) (rows : List StoredRow) → IsSound p → IsSound q → Grows own p q → KnowsTurned p pk part rows → KnowsTurned q pk part rows
+turned_kept own p q pk part rows s t g h = record {
   marked = up (λ o n. is_marked n) 3 marked_rank p q pk s t (g.modes pk) h.marked;
   turned = λ fills. (let k = stays_turned own p q pk s t g h.marked fills in overlaid_turned q pk t (k.overlaid (h.turned k.before)).1);
   rows = λ fills rk pos in_keys. (let k = stays_turned own p q pk s t g h.marked fills in let o = k.overlaid (h.turned k.before) in ap (option_map (shown rk)) (g.turned pk o.0 o.1 rk) ∙ h.rows k.before rk pos in_keys);
@@ -112,16 +112,16 @@ exact_kept row row' entry entry' same st x = record {
 }
 
 -- what is known of an epoch while others act
-pub epoch_kept : (own : List Fact) (p q : Pair) (pk : List ℕ) (tag : Tag) (keys : Keys) → IsSound p → IsSound q → Grows own p q → ApartFrom (Epoch pk tag NoKeys) own → KnowsEpoch p pk tag keys → KnowsEpoch q pk tag keys
-epoch_kept own p q pk tag keys s t g apart h = record {
+pub epoch_kept : (own : List Fact) (p q : Pair) (pk : List ℕ) (tag : Tag) (part : Keys) → IsSound p → IsSound q → Grows own p q → ApartFrom (Epoch pk tag keys.None) own → KnowsEpoch p pk tag part → KnowsEpoch q pk tag part
+epoch_kept own p q pk tag part s t g apart h = record {
   past = omega (arith, h.past, g.new.counter);
   marked = up (λ o n. is_marked n) 3 marked_rank p q pk s t (g.modes pk) h.marked;
   filling = λ m is e. h.filling m (was m is e) e;
-  turned = λ m is e some. overlaid_turned q pk t (over m is e some).1;
+  turned = λ m is e rk in_keys. overlaid_turned q pk t (over m is e rk in_keys).1;
   exact = λ m is e rk pos in_keys.
-      let o = over m is e (has_in keys rk in_keys) in
+      let o = over m is e rk in_keys in
       exact_kept (old_at p pk rk) (old_at q pk rk) (new_at p pk rk) (new_at q pk rk) (g.turned pk o.0 o.1 rk)
-      (g.entries pk m o.0 o.1 is (at_most m e) (subst (λ x. ApartFrom (Epoch pk x NoKeys) own) (sym e) apart) rk pos)
+      (g.entries pk m o.0 o.1 is (at_most m e) (subst (λ x. ApartFrom (Epoch pk x keys.None) own) (sym e) apart) rk pos)
       (h.exact m (was m is e) e rk pos in_keys);
 } where
   at_most : (m : Stored) → m.tag ≡ tag → m.tag.n ≤ p.new.counter
@@ -133,11 +133,11 @@ epoch_kept own p q pk tag keys s t g apart h = record {
   fills : (m : Stored) → new_at q pk marker_key ≡ Some m → m.tag ≡ tag → is_filling (new_state_at q pk) ≡ true
   fills m is e = ap (λ x. is_filling (new_state x)) is ∙ ap (λ c. is_filling (new_says c)) (h.filling m (was m is e) e)
 
-  over : (m : Stored) → new_at q pk marker_key ≡ Some m → m.tag ≡ tag → HasKeys keys → (mode p pk ≡ Overlaid) × (mode q pk ≡ Overlaid)
-  over m is e some = (stays_turned own p q pk s t g h.marked (fills m is e)).overlaid (h.turned m (was m is e) e some)
+  over : (m : Stored) → new_at q pk marker_key ≡ Some m → m.tag ≡ tag → (rk : List ℕ) → InKeys part rk → (mode p pk ≡ Overlaid) × (mode q pk ≡ Overlaid)
+  over m is e rk in_keys = (stays_turned own p q pk s t g h.marked (fills m is e)).overlaid (h.turned m (was m is e) e rk in_keys)
 
-clean_kept : (own : List Fact) (p q : Pair) (pk : List ℕ) (keys : Keys) (rest : Option (List StoredRow)) → IsSound p → IsSound q → Grows own p q → KnowsClean p pk keys rest → KnowsClean q pk keys rest
-clean_kept own p q pk keys rest s t g h = record {
+clean_kept : (own : List Fact) (p q : Pair) (pk : List ℕ) (part : Keys) (rest : Option (List StoredRow)) → IsSound p → IsSound q → Grows own p q → KnowsClean p pk part rest → KnowsClean q pk part rest
+clean_kept own p q pk part rest s t g h = record {
   moved = up (λ o n. is_use_new n) 5 use_new_rank p q pk s t (g.modes pk) h.moved;
   tombs = λ rk pos in_keys. g.tombs pk low rk pos (h.tombs rk pos in_keys);
   left = lefts rest h.left;
@@ -161,12 +161,12 @@ swept_kept own p q place s t g h = record {
   ];
 }
 
-any_keys : (own : List Fact) (pk : List ℕ) (tag : Tag) (keys : Keys) → ApartFrom (Epoch pk tag keys) own → ApartFrom (Epoch pk tag NoKeys) own
-any_keys [] pk tag keys h = tt
-any_keys (f ∷ fs) pk tag keys h = (one f h.0, any_keys fs pk tag keys h.1) where
-  one : (f : Fact) → Apart (Epoch pk tag keys) f → Apart (Epoch pk tag NoKeys) f
+any_keys : (own : List Fact) (pk : List ℕ) (tag : Tag) (part : Keys) → ApartFrom (Epoch pk tag part) own → ApartFrom (Epoch pk tag keys.None) own
+any_keys [] pk tag part h = tt
+any_keys (f ∷ fs) pk tag part h = (one f h.0, any_keys fs pk tag part h.1) where
+  one : (f : Fact) → Apart (Epoch pk tag part) f → Apart (Epoch pk tag keys.None) f
   one (Epoch a b c) h = h
-  one (RowIs a b c d e) h = tt
+  one (Row a b c d e) h = tt
   one (Kept a b c) h = tt
   one (Begun a) h = tt
   one (There a) h = tt
@@ -180,15 +180,15 @@ any_keys (f ∷ fs) pk tag keys h = (one f h.0, any_keys fs pk tag keys h.1) whe
 -- a fact that holds, and is apart from the facts of the actor whose step it is, holds after that step
 pub fact_kept : (own : List Fact) (p q : Pair) (before after : Bool) → IsSound p → IsSound q → Grows own p q → (before ≡ true → after ≡ true)
     → (f : Fact) → Holds p before f → ApartFrom f own → Holds q after f
-fact_kept own p q before after s t g r (RowIs InOld pk rk props tag) h a = row_kept p.old q.old pk rk props tag g.old h
-fact_kept own p q before after s t g r (RowIs InNew pk rk props tag) h a = row_kept p.new q.new pk rk props tag g.new h
+fact_kept own p q before after s t g r (Row Old pk rk props tag) h a = row_kept p.old q.old pk rk props tag g.old h
+fact_kept own p q before after s t g r (Row New pk rk props tag) h a = row_kept p.new q.new pk rk props tag g.new h
 fact_kept own p q before after s t g r (Kept pk rk tag) h a = kept_kept own p q pk rk tag g h
 fact_kept own p q before after s t g r (Begun pk) h a = up is_begun 2 begun_rank p q pk s t (g.modes pk) h
 fact_kept own p q before after s t g r (There pk) h a = up is_there 1 there_rank p q pk s t (g.modes pk) h
-fact_kept own p q before after s t g r (Turned pk keys rows) h a = turned_kept own p q pk keys rows s t g h
+fact_kept own p q before after s t g r (Turned pk part rows) h a = turned_kept own p q pk part rows s t g h
 fact_kept own p q before after s t g r (Closed low high) h a = record { sealed = g.sealed h.sealed; empty = λ pk from below. g.births h.sealed pk (h.empty pk from below marker_key) }
 fact_kept own p q before after s t g r (Moved pk) h a = up (λ o n. is_use_new n) 5 use_new_rank p q pk s t (g.modes pk) h
-fact_kept own p q before after s t g r (Epoch pk tag keys) h a = epoch_kept own p q pk tag keys s t g (any_keys own pk tag keys a) h
-fact_kept own p q before after s t g r (Clean pk keys rest) h a = clean_kept own p q pk keys rest s t g h
+fact_kept own p q before after s t g r (Epoch pk tag part) h a = epoch_kept own p q pk tag part s t g (any_keys own pk tag part a) h
+fact_kept own p q before after s t g r (Clean pk part rest) h a = clean_kept own p q pk part rest s t g h
 fact_kept own p q before after s t g r (Swept place) h a = swept_kept own p q place s t g h
 fact_kept own p q before after s t g r Retired h a = r h

@@ -6,3 +6,6 @@ pub mod ModeLaws
 pub mod Growth
 pub mod StorePuts
 pub mod Parts
+pub mod PairLaws
+pub mod Actors
+pub mod Theorems

@@ -14,7 +14,10 @@ use Rattle.mt_meta.specs.Marks.{mark_of}
 use Rattle.mt_meta.specs.Logical.{Pair, old_at, new_at, old_state, new_state, old_state_at, new_state_at, row_by, logical}
 use Rattle.mt_meta.specs.Sound.{IsOldMarker, IsNewMarker, IsOldRow, IsEntry, HaveForms, NoTomb, IsKept, AreKept, IsSound}
 use Rattle.mt_meta.specs.Modes.{Mode, Overlaid, mode, mode_of, rank, FitsMode}
-use Rattle.mt_meta.specs.Facts.{NoKeys, Fact, Epoch, ApartFrom, EntryStays, Grows}
+use Rattle.mt_meta.specs.declared.fact.Keys.TheVariants as keys
+use Rattle.mt_meta.specs.declared.fact.Fact.{Fact}
+use Rattle.mt_meta.specs.declared.fact.Fact.TheVariants.{Epoch}
+use Rattle.mt_meta.specs.Facts.{ApartFrom, EntryStays, Grows}
 use Rattle.mt_meta.specs.Steps.{StepIn, with_old, with_new}
 use Rattle.mt_meta.proofs.Rules.{to_modes, from_modes}
 use Rattle.mt_meta.proofs.Growth.{stays_self, no_rows}
@@ -53,7 +56,7 @@ pub record Local (own : List Fact) (p : Pair) (a b : Contents) (part : List ℕ)
   pub births : p.old.sealed ≡ true → old_at p part marker_key ≡ None → (rk : List ℕ) → row_at a.rows part rk ≡ None
   pub turned : mode p part ≡ Overlaid → mode (with_both p a b) part ≡ Overlaid → (rk : List ℕ) → row_at a.rows part rk ≡ old_at p part rk
   pub entries : (m : Stored) → mode p part ≡ Overlaid → mode (with_both p a b) part ≡ Overlaid → row_at b.rows part marker_key ≡ Some m
-      → m.tag.n ≤ p.new.counter → ApartFrom (Epoch part m.tag NoKeys) own → (rk : List ℕ) → rk ≢ marker_key
+      → m.tag.n ≤ p.new.counter → ApartFrom (Epoch part m.tag keys.None) own → (rk : List ℕ) → rk ≢ marker_key
       → EntryStays (new_at p part rk) (row_at b.rows part rk)
   pub tombs : 5 ≤ rank (mode p part) → (rk : List ℕ) → rk ≢ marker_key → NoTomb (new_at p part rk) → NoTomb (row_at b.rows part rk)
   pub dropped : 5 ≤ rank (mode p part) → (rk : List ℕ) → (row_at a.rows part rk ≡ old_at p part rk) ⊎ (row_at a.rows part rk ≡ None)
@@ -133,7 +136,7 @@ module _ (own : List Fact) (p : Pair) (a b : Contents) (part : List ℕ) (s : Is
     births = λ is pk. by_part part pk (λ x. old_at p x marker_key ≡ None → (rk : List ℕ) → old_at after x rk ≡ None) (l.births is) (λ ne none rk. old_same pk rk ne ∙ no_rows p s pk none rk);
     turned = λ pk. by_part part pk (λ x. mode p x ≡ Overlaid → mode after x ≡ Overlaid → (rk : List ℕ) → old_at after x rk ≡ old_at p x rk) l.turned (λ ne x y rk. old_same pk rk ne);
     entries = λ pk m. by_part part pk (λ x. mode p x ≡ Overlaid → mode after x ≡ Overlaid → new_at after x marker_key ≡ Some m → m.tag.n ≤ p.new.counter
-        → ApartFrom (Epoch x m.tag NoKeys) own → (rk : List ℕ) → rk ≢ marker_key → EntryStays (new_at p x rk) (new_at after x rk)) (l.entries m)
+        → ApartFrom (Epoch x m.tag keys.None) own → (rk : List ℕ) → rk ≢ marker_key → EntryStays (new_at p x rk) (new_at after x rk)) (l.entries m)
         (λ ne x y is le apart rk other. subst (λ x. EntryStays (new_at p pk rk) x) (sym (new_same pk rk ne)) (stays_self (new_at p pk rk)));
     tombs = λ pk. by_part part pk (λ x. 5 ≤ rank (mode p x) → (rk : List ℕ) → rk ≢ marker_key → NoTomb (new_at p x rk) → NoTomb (new_at after x rk)) l.tombs
         (λ ne le rk other h. subst NoTomb (sym (new_same pk rk ne)) h);
@@ -214,7 +217,7 @@ pub new_step : (own : List Fact) (p : Pair) (part : List ℕ) (c : Contents) (m 
     → KeptAt (with_new p c) p.new_number c part
     → ((rk : List ℕ) → rk ≢ marker_key → FitsMode m' (old_at p part rk) (row_at c.rows part rk))
     → (m ≡ Overlaid → m' ≡ Overlaid → (w : Stored) → row_at c.rows part marker_key ≡ Some w → w.tag.n ≤ p.new.counter
-    → ApartFrom (Epoch part w.tag NoKeys) own → (rk : List ℕ) → rk ≢ marker_key → EntryStays (new_at p part rk) (row_at c.rows part rk))
+    → ApartFrom (Epoch part w.tag keys.None) own → (rk : List ℕ) → rk ≢ marker_key → EntryStays (new_at p part rk) (row_at c.rows part rk))
     → (5 ≤ rank m → (rk : List ℕ) → rk ≢ marker_key → NoTomb (new_at p part rk) → NoTomb (row_at c.rows part rk))
     → StepIn own p (with_new p c) part
 new_step own p part c m m' s moves is now le forms kept here stays tombs =

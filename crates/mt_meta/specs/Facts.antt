@@ -6,56 +6,32 @@ use Rattle.std.specs.Cmp.Lexicographic.{slice_cmp}
 use Rattle.mt_model.specs.declared.tag.Tag.{Tag}
 use Rattle.mt_model.specs.declared.value.Prop.{Prop}
 use Rattle.mt_model.specs.Key.{key_fault}
+use Rattle.mt_chain.specs.declared.ask.Side.TheVariants.{Old, New}
 use Rattle.mt_chain.specs.declared.row.Stored.{Stored}
 use Rattle.mt_chain.specs.declared.row.StoredRow.{StoredRow}
-use Rattle.mt_chain.specs.declared.query.RkFrom.{RkFrom}
 use Rattle.mt_chain.specs.declared.query.PkFrom.{PkFrom}
 use Rattle.mt_chain.specs.Rows.{row_at, shown, is_from, is_upto, is_past}
 use Rattle.mt_chain.specs.StoreCall.{Contents}
 use Rattle.mt_meta.specs.declared.marker.NewPhase.TheVariants.{Filling}
 use Rattle.mt_meta.specs.declared.mark.Mark.TheVariants.{Copy}
+use Rattle.mt_meta.specs.declared.fact.Keys.{Keys}
+use Rattle.mt_meta.specs.declared.fact.Keys.TheVariants as keys
+use Rattle.mt_meta.specs.declared.fact.Fact.{Fact}
+use Rattle.mt_meta.specs.declared.fact.Fact.TheVariants as fact
 use Rattle.mt_meta.specs.Markers.{marker_key, new_phase_of}
 use Rattle.mt_meta.specs.Marks.{mark_of}
 use Rattle.mt_meta.specs.Logical.{Pair, OldState, NoOld, AtPreferOld, AtPreferNew, NewState, NoNew, AtFilling, AtUseNew, shown_as, from_old, old_at, new_at, old_state_at, new_state_at}
 use Rattle.mt_meta.specs.Sound.{NoTomb, IsKept}
 use Rattle.mt_meta.specs.Modes.{Overlaid, mode, rank}
 
--- row keys of a partition: none, these, or those of a range less these, which still wait for a put
-pub data Keys : Type 0 where
-  NoKeys : Keys
-  Named : (keys : List (List ℕ)) → Keys
-  Within : (from : RkFrom) (upto : Option (List ℕ)) (waiting : List (List ℕ)) → Keys
-
 abbrev pub is_in : List ℕ → List (List ℕ) → Bool
-is_in rk keys = list_any (bytes_eq rk) keys
+is_in rk listed = list_any (bytes_eq rk) listed
 
+-- the row key lies in these
 abbrev pub InKeys : Keys → List ℕ → Type 0
-InKeys NoKeys rk = ⊥
-InKeys (Named keys) rk = is_in rk keys ≡ true
-InKeys (Within from upto waiting) rk = (is_from from rk ≡ true) × (is_upto upto rk ≡ true) × (is_in rk waiting ≡ false)
-
-abbrev pub HasKeys : Keys → Type 0
-HasKeys NoKeys = ⊥
-HasKeys (Named keys) = Unit {0}
-HasKeys (Within from upto waiting) = Unit {0}
-
--- one of the two stores
-pub data Side : Type 0 where
-  InOld : Side
-  InNew : Side
-
-pub data Fact : Type 0 where
-  RowIs : (side : Side) (pk rk : List ℕ) (props : List Prop) (tag : Tag) → Fact
-  Kept : (pk rk : List ℕ) (tag : Tag) → Fact
-  Begun : (pk : List ℕ) → Fact
-  There : (pk : List ℕ) → Fact
-  Turned : (pk : List ℕ) (keys : Keys) (rows : List StoredRow) → Fact
-  Closed : (from : PkFrom) (upto : Option (List ℕ)) → Fact
-  Moved : (pk : List ℕ) → Fact
-  Epoch : (pk : List ℕ) (tag : Tag) (keys : Keys) → Fact
-  Clean : (pk : List ℕ) (keys : Keys) (rest : Option (List StoredRow)) → Fact
-  Swept : (place : Option PkFrom) → Fact
-  Retired : Fact
+InKeys keys.None rk = ⊥
+InKeys (keys.Named listed) rk = is_in rk listed ≡ true
+InKeys (keys.Within from upto waiting) rk = (is_from from rk ≡ true) × (is_upto upto rk ≡ true) × (is_in rk waiting ≡ false)
 
 -- before the end of a range of partition keys, which does not belong to it
 abbrev pub IsBelow : List ℕ → Option (List ℕ) → Type 0
@@ -108,11 +84,11 @@ pub record KnowsKept (p : Pair) (pk rk : List ℕ) (tag : Tag) : Type 0 where
   pub key : key_fault pk rk ≡ None
   pub tag_is : IsKept p p.new_number tag
 
--- while new fills, old takes no write, and has these rows
-pub record KnowsTurned (p : Pair) (pk : List ℕ) (keys : Keys) (seen : List StoredRow) : Type 0 where
+-- while new fills, old takes no write, and has these rows at these keys
+pub record KnowsTurned (p : Pair) (pk : List ℕ) (part : Keys) (seen : List StoredRow) : Type 0 where
   pub marked : is_marked (new_state_at p pk) ≡ true
   pub turned : is_filling (new_state_at p pk) ≡ true → is_prefer_new (old_state_at p pk) ≡ true
-  pub rows : is_filling (new_state_at p pk) ≡ true → (rk : List ℕ) → rk ≢ marker_key → InKeys keys rk
+  pub rows : is_filling (new_state_at p pk) ≡ true → (rk : List ℕ) → rk ≢ marker_key → InKeys part rk
       → option_map (shown rk) (old_at p pk rk) ≡ row_in seen rk
 
 -- old is sealed, and has nothing in the range
@@ -125,19 +101,19 @@ pub record Exact (row entry : Option Stored) : Type 0 where
   pub covered : is_some row ≡ true → is_some entry ≡ true
   pub copies : (e : Stored) (tag : Tag) → entry ≡ Some e → mark_of e.props ≡ Some (Copy tag) → from_old row ≡ Some (shown_as e.props tag)
 
--- new's marker of that tag is of the migrator's own making: it fills, and at these keys its copies are made
-pub record KnowsEpoch (p : Pair) (pk : List ℕ) (tag : Tag) (keys : Keys) : Type 0 where
+-- new's marker of that tag is of the migrator's own making: it fills, and where there are keys, old is turned and at these keys the copies are made
+pub record KnowsEpoch (p : Pair) (pk : List ℕ) (tag : Tag) (part : Keys) : Type 0 where
   pub past : tag.n ≤ p.new.counter
   pub marked : is_marked (new_state_at p pk) ≡ true
   pub filling : (m : Stored) → new_at p pk marker_key ≡ Some m → m.tag ≡ tag → new_phase_of m.props ≡ Some Filling
-  pub turned : (m : Stored) → new_at p pk marker_key ≡ Some m → m.tag ≡ tag → HasKeys keys → is_prefer_new (old_state_at p pk) ≡ true
-  pub exact : (m : Stored) → new_at p pk marker_key ≡ Some m → m.tag ≡ tag → (rk : List ℕ) → rk ≢ marker_key → InKeys keys rk
+  pub turned : (m : Stored) → new_at p pk marker_key ≡ Some m → m.tag ≡ tag → (rk : List ℕ) → InKeys part rk → is_prefer_new (old_state_at p pk) ≡ true
+  pub exact : (m : Stored) → new_at p pk marker_key ≡ Some m → m.tag ≡ tag → (rk : List ℕ) → rk ≢ marker_key → InKeys part rk
       → Exact (old_at p pk rk) (new_at p pk rk)
 
 -- new is used alone, has no tombstone at these keys, and old has no data rows but these
-pub record KnowsClean (p : Pair) (pk : List ℕ) (keys : Keys) (rest : Option (List StoredRow)) : Type 0 where
+pub record KnowsClean (p : Pair) (pk : List ℕ) (part : Keys) (rest : Option (List StoredRow)) : Type 0 where
   pub moved : is_use_new (new_state_at p pk) ≡ true
-  pub tombs : (rk : List ℕ) → rk ≢ marker_key → InKeys keys rk → NoTomb (new_at p pk rk)
+  pub tombs : (rk : List ℕ) → rk ≢ marker_key → InKeys part rk → NoTomb (new_at p pk rk)
   pub left : IfSome rest (λ rows. (rk : List ℕ) (r : Stored) → rk ≢ marker_key → old_at p pk rk ≡ Some r → row_in rows rk ≡ Some (shown rk r))
 
 -- old is sealed, and each of its partitions before the place is in new alone
@@ -147,27 +123,36 @@ pub record KnowsSwept (p : Pair) (place : Option PkFrom) : Type 0 where
 
 -- the fact holds of two stores, and of whether old is retired
 abbrev pub Holds : Pair → Bool → Fact → Type 0
-Holds p retired (RowIs InOld pk rk props tag) = KnowsRow p.old pk rk props tag
-Holds p retired (RowIs InNew pk rk props tag) = KnowsRow p.new pk rk props tag
-Holds p retired (Kept pk rk tag) = KnowsKept p pk rk tag
-Holds p retired (Begun pk) = is_begun (old_state_at p pk) (new_state_at p pk) ≡ true
-Holds p retired (There pk) = is_there (old_state_at p pk) (new_state_at p pk) ≡ true
-Holds p retired (Turned pk keys rows) = KnowsTurned p pk keys rows
-Holds p retired (Closed from upto) = KnowsClosed p from upto
-Holds p retired (Moved pk) = is_use_new (new_state_at p pk) ≡ true
-Holds p retired (Epoch pk tag keys) = KnowsEpoch p pk tag keys
-Holds p retired (Clean pk keys rest) = KnowsClean p pk keys rest
-Holds p retired (Swept place) = KnowsSwept p place
-Holds p retired Retired = retired ≡ true
+Holds p retired (fact.Row Old pk rk props tag) = KnowsRow p.old pk rk props tag
+Holds p retired (fact.Row New pk rk props tag) = KnowsRow p.new pk rk props tag
+Holds p retired (fact.Kept pk rk tag) = KnowsKept p pk rk tag
+Holds p retired (fact.Begun pk) = is_begun (old_state_at p pk) (new_state_at p pk) ≡ true
+Holds p retired (fact.There pk) = is_there (old_state_at p pk) (new_state_at p pk) ≡ true
+Holds p retired (fact.Turned pk part rows) = KnowsTurned p pk part rows
+Holds p retired (fact.Closed from upto) = KnowsClosed p from upto
+Holds p retired (fact.Moved pk) = is_use_new (new_state_at p pk) ≡ true
+Holds p retired (fact.Epoch pk tag part) = KnowsEpoch p pk tag part
+Holds p retired (fact.Clean pk part rest) = KnowsClean p pk part rest
+Holds p retired (fact.Swept place) = KnowsSwept p place
+Holds p retired fact.Retired = retired ≡ true
 
 -- two facts are apart unless both speak of one epoch
 abbrev pub Apart : Fact → Fact → Type 0
-Apart (Epoch pk tag keys) (Epoch pk' tag' keys') = pk ≡ pk' → tag ≡ tag' → ⊥
+Apart (fact.Epoch pk tag part) (fact.Epoch pk' tag' part') = pk ≡ pk' → tag ≡ tag' → ⊥
 Apart f g = Unit {0}
 
 abbrev pub ApartFrom : Fact → List Fact → Type 0
 ApartFrom f [] = Unit {0}
 ApartFrom f (g ∷ gs) = Apart f g × ApartFrom f gs
+
+-- the fact speaks of no epoch
+abbrev pub IsPlain : Fact → Type 0
+IsPlain (fact.Epoch pk tag part) = ⊥
+IsPlain f = Unit {0}
+
+abbrev pub AllPlain : List Fact → Type 0
+AllPlain [] = Unit {0}
+AllPlain (f ∷ fs) = IsPlain f × AllPlain fs
 
 -- an entry stays one, and a copy there now was there with the same properties
 pub record EntryStays (before after : Option Stored) : Type 0 where
@@ -196,7 +181,7 @@ pub record Grows (own : List Fact) (p q : Pair) : Type 0 where
   pub turned : (pk : List ℕ) → mode p pk ≡ Overlaid → mode q pk ≡ Overlaid → (rk : List ℕ) → old_at q pk rk ≡ old_at p pk rk
   -- while new fills, clients leave live rows and tombstones, and only the epoch's own migrator writes copies
   pub entries : (pk : List ℕ) (m : Stored) → mode p pk ≡ Overlaid → mode q pk ≡ Overlaid → new_at q pk marker_key ≡ Some m
-      → m.tag.n ≤ p.new.counter → ApartFrom (Epoch pk m.tag NoKeys) own → (rk : List ℕ) → rk ≢ marker_key
+      → m.tag.n ≤ p.new.counter → ApartFrom (fact.Epoch pk m.tag keys.None) own → (rk : List ℕ) → rk ≢ marker_key
       → EntryStays (new_at p pk rk) (new_at q pk rk)
   -- once new is used alone, a delete leaves no tombstone
   pub tombs : (pk : List ℕ) → 5 ≤ rank (mode p pk) → (rk : List ℕ) → rk ≢ marker_key → NoTomb (new_at p pk rk) → NoTomb (new_at q pk rk)

@@ -1,5 +1,5 @@
 -- The table that two stores show as one.
-use Rattle.std.specs.Prelude.{ℕ, bytes_eq, List, filter, Option, Some, None, option_map, if◌then◌else◌}
+use Rattle.std.specs.Prelude.{ℕ, bytes_eq, List, filter, Option, Some, None, option_map, IfSome, if◌then◌else◌}
 use Rattle.mt_model.specs.declared.tag.Tag.{Tag}
 use Rattle.mt_model.specs.declared.value.Prop.{Prop}
 use Rattle.mt_model.specs.Props.{is_visible}
@@ -23,6 +23,14 @@ pub record Pair : Type 0 where
   pub new_number : ℕ
   pub old : Contents
   pub new : Contents
+
+-- two stores of these numbers that hold this
+abbrev pub pair_of : ℕ → ℕ → Contents → Contents → Pair
+pair_of old_number new_number old new = record { old_number = old_number; new_number = new_number; old = old; new = new }
+
+-- what holds of two stores of these numbers, where both tell what they hold
+abbrev pub ForPair : ℕ → ℕ → Option Contents → Option Contents → (Pair → Type 0) → Type 0
+ForPair old_number new_number old new P = IfSome old (λ a. IfSome new (λ b. P (pair_of old_number new_number a b)))
 
 -- what the old store's marker of a partition says, or that there is none, or one that says nothing
 pub data OldState : Type 0 where

@@ -6,6 +6,9 @@ use mt_chain::StoredRow;
 use mt_model::{Hidden, NoMemory, Props, Text};
 use std::alloc::Global;
 
+/// The row key of a partition's marker, which no key of a client has.
+pub const MARKER_KEY: &str = "\u{1}";
+
 /// How far a partition's move is, as the old store's marker says.
 #[derive(Clone, Copy, Debug, PartialEq, Eq)]
 pub enum Phase {

@@ -1,8 +1,5 @@
-ghost use Rattle.std.specs.Prelude.{IsTrue, IfOk};
-ghost use Rattle.mt_chain.specs.Rows.{are_rising};
-
-use crate::model::{Applied, ApplyFault, EffectFault, Row, apply_batch, effect};
-use crate::{Cause, Cond, Op, Stored};
+use crate::model::{Applied, ApplyFault, EffectFault, apply_batch, effect};
+use crate::{Cause, Cond, Op, Row, Rows, Stored};
 use mt_model::{Key, Name, Prop, Props, Tag, Text, Value};
 use std::alloc::Global;
 use std::test::Fail;
@@ -73,14 +70,11 @@ fn op_of(alloc: Global, ask: Ask) -> Result<Op, Fail> {
 /// A batch of one or two operations, with these tags.
 fn run(
     alloc: Global,
-    rows: Vec<Row>,
+    rows: Rows,
     first: Ask,
     second: Option<Ask>,
     tags: [Tag; 2],
-) -> Result<Result<Applied, ApplyFault>, Fail>
-    requires { IsTrue (are_rising rows.items) }
-    ensures { IfOk result (λ r. IfOk r (λ a. IsTrue (are_rising a.rows.items))) }
-{
+) -> Result<Result<Applied, ApplyFault>, Fail> {
     let mut ops = Vec::new(alloc);
     ops.push(op_of(alloc, first)?)?;
     if let Some(second) = second {
@@ -94,10 +88,8 @@ fn run(
 }
 
 /// The rows `m` and `r` with the tags 1 and 2, or none.
-fn start(alloc: Global, filled: bool) -> Result<Vec<Row>, Fail>
-    ensures { IfOk result (λ rows. IsTrue (are_rising rows.items)) }
-{
-    let none = Vec::new(alloc);
+fn start(alloc: Global, filled: bool) -> Result<Rows, Fail> {
+    let none = Rows::of(Vec::new(alloc));
     if !filled {
         return Ok(none);
     }
@@ -132,7 +124,7 @@ fn words(alloc: Global, answer: &Result<Applied, ApplyFault>) -> Result<String, 
             text.push_str(format!(in alloc; "{fault:?}")?.as_str())?;
         }
         Ok(applied) => {
-            for row in &applied.rows {
+            for row in applied.rows.as_slice() {
                 text.push_str(row_words(alloc, row)?.as_str())?;
             }
             for tag in &applied.tags {

@@ -1,10 +1,9 @@
-use Rattle.std.proofs.Common.{◌≡◌, ◌∙◌, ◌++◌, ◌∷◌, [], ◌<◌, sym, ap, subst, arith, length, option_to_list, get_or, IsTrue, refl, List, Option}
+use Rattle.std.proofs.Common.{◌≡◌, ◌∙◌, ◌++◌, ◌∷◌, [], ◌<◌, sym, ap, arith, length, get_or, refl, List, Option}
 use Rattle.mt_chain.specs.declared.row.Stored.{Stored}
-use Rattle.mt_chain.specs.Rows.{are_rising}
-use Rattle.mt_chain.specs.Table.{IsSameTable, table_of}
+use Rattle.mt_chain.specs.Table.{table_of}
 use Rattle.mt_chain.specs.Effect.{op_key}
 use Rattle.mt_chain.specs.Model.{rows_with, with_rows_left}
-use Rattle.mt_chain.proofs.ModelLaws.{one_left, rising_rows_with, with_none}
+use Rattle.mt_chain.proofs.ModelLaws.{one_left, with_none}
 use Rattle.mt_chain.proofs.model.leave_all.Goals as goal
 
 nothing_left : (xs : List (Option Stored)) → length xs ≡ 0 → xs ≡ []
@@ -23,17 +22,16 @@ loop-row-preserved c =
     let short : length rest < length ops = (let was = at.invariant.short in omega arith) in
     let place : c.len.result ≡ length rest = (let is = c.len.ensures in let ok = c.pop.new.self.ok.0 in omega (arith, is, ok)) in
     let is : op ≡ get_or ops (length rest) op = c.index-ops-len.is ∙ ap (λ n. get_or ops n op) place in
-    let made : c.leave.new.rows.items ≡ rows_with at.rows.items (op_key op) row = c.in_ok-leave.ensures ∙ ap (λ k. rows_with at.rows.items k row) c.key.ensures in
+    let made : c.leave.new.rows ≡ rows_with at.rows (op_key op) row = c.in_ok-leave.ensures ∙ ap (λ k. rows_with at.rows k row) c.key.ensures in
     record {
-      rising = subst (λ rs. IsTrue (are_rising rs)) (sym made) (rising_rows_with at.rows.items (op_key op) row at.invariant.rising);
       short = (let below = short in omega arith);
-      rows = one_left ops rest c.args.left.items at.rows.items c.leave.new.rows.items c.args.rows.now.items row op short is made
-          (λ key. ap (λ ls. with_rows_left ops ls (table_of at.rows.items) key) (sym popped) ∙ at.invariant.rows key);
+      rows = one_left ops rest c.args.left.items at.rows c.leave.new.rows c.args.rows.now row op short is made
+          (λ key. ap (λ ls. with_rows_left ops ls (table_of at.rows) key) (sym popped) ∙ at.invariant.rows key);
     }
 
-pub returns-clause-rows : goal.returns-clause-rows
-returns-clause-rows c = λ key.
+pub returns : goal.returns
+returns c = λ key.
     let ops = c.args.ops.now in
     let at = c.loop-row in
     let empty = nothing_left at.left.items (let none = c.in_default.ensures.cases.0 in let ok = at.left.ok.0 in omega (arith, none, ok)) in
-    sym (with_none ops (table_of at.rows.items) key) ∙ ap (λ ls. with_rows_left ops ls (table_of at.rows.items) key) (sym empty) ∙ at.invariant.rows key
+    sym (with_none ops (table_of at.rows) key) ∙ ap (λ ls. with_rows_left ops ls (table_of at.rows) key) (sym empty) ∙ at.invariant.rows key

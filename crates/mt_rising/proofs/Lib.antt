@@ -1,9 +1,0 @@
-pub mod OrderLaws
-pub mod KeyLaws
-pub mod ListLaws
-pub mod FirstLaws
-pub mod PartLaws
-pub mod JoinLaws
-pub mod MergeLaws
-pub mod MapLaws
-pub mod EntryLaws
