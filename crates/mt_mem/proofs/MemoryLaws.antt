@@ -32,15 +32,13 @@ counted_call m after store calls faults grew h = record {
   calls = calls;
   grew = omega (arith, grew, calls);
   faults = omega (arith, faults);
-  contents = record { rising = h.rows.rising };
+  contents = record { rising = h.rising };
 }
-
-counted_memory : (m : Memory) → IsMemory m → IsMemory (counted m)
-counted_memory m h = record { rows = h.rows; bounded = h.bounded }
 
 pub queries_found : (m : Memory) (q : RangeQuery) (found : Found) → is_failing m ≡ false → IsMemory m → m.calls ≤ risen m.calls → IsFound q found (contents_of m) → Queries (store_of m) q (Ok found) (store_of (counted m))
 queries_found m q found e h grew is = record {
-  counted = counted_call m (counted m) refl refl refl grew (counted_memory m h);
+  counted = counted_call m (counted m) refl refl refl grew h;
+  faults = refl;
   queried = (early m e, found_fits q found (contents_of m) is, (refl, is));
 }
 
@@ -51,25 +49,29 @@ applies_judged m pk puts (Ok tags) after e room h grew j =
     let done = was_done m.store (contents_of m) pk puts (contents_of after) tags j.0 in
     record {
       counted = counted_call m after (ap (λ x. x.store) j.1) (ap (λ x. x.calls) j.1) (ap (λ x. x.faults) j.1) grew
-          (subst IsMemory (sym j.1) (memory_done (counted m) pk puts (room_for m puts room) (counted_memory m h)));
+          (subst IsMemory (sym j.1) (memory_done (counted m) pk puts h));
+      faults = ap (λ x. x.faults) j.1;
       shows = (early m e, ap length done.answer ∙ length-tags_of m.store m.counter puts);
-      judged = j.0;
+      judged = (j.0, room_for m puts room);
     }
 applies_judged m pk puts (Err (Unmet index)) after e room h grew j =
     let unmet = was_unmet m.store (contents_of m) pk puts index j.0 in
     record {
-      counted = counted_call m after (ap (λ x. x.store) j.1) (ap (λ x. x.calls) j.1) (ap (λ x. x.faults) j.1) grew (subst IsMemory (sym j.1) (counted_memory m h));
+      counted = counted_call m after (ap (λ x. x.store) j.1) (ap (λ x. x.calls) j.1) (ap (λ x. x.faults) j.1) grew (subst IsMemory (sym j.1) h);
+      faults = ap (λ x. x.faults) j.1;
       shows = (early m e, unmet_below (contents_of m) pk puts index unmet.unmet);
-      judged = (j.0, ap contents_of j.1);
+      judged = (j.0, ap contents_of j.1, room_for m puts room);
     }
 applies_judged m pk puts (Err Sealed) after e room h grew j = record {
-  counted = counted_call m after (ap (λ x. x.store) j.1) (ap (λ x. x.calls) j.1) (ap (λ x. x.faults) j.1) grew (subst IsMemory (sym j.1) (counted_memory m h));
+  counted = counted_call m after (ap (λ x. x.store) j.1) (ap (λ x. x.calls) j.1) (ap (λ x. x.faults) j.1) grew (subst IsMemory (sym j.1) h);
+  faults = ap (λ x. x.faults) j.1;
   shows = early m e;
-  judged = (j.0, ap contents_of j.1);
+  judged = (j.0, ap contents_of j.1, room_for m puts room);
 }
 applies_judged m pk puts (Err Failed) after e room h grew j = absurd j
 applies_judged m pk puts (Err NoMemory) after e room h grew j = record {
-  counted = counted_call m after (ap (λ x. x.store) j) (ap (λ x. x.calls) j) (ap (λ x. x.faults) j) grew (subst IsMemory (sym j) (counted_memory m h));
+  counted = counted_call m after (ap (λ x. x.store) j) (ap (λ x. x.calls) j) (ap (λ x. x.faults) j) grew (subst IsMemory (sym j) h);
+  faults = ap (λ x. x.faults) j;
   shows = tt;
   judged = ap contents_of j;
 }

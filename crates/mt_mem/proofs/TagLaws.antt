@@ -1,5 +1,5 @@
 -- Rows whose tags their store gave go on as such.
-use Rattle.std.proofs.Common.{◌≡◌, ℕ, ◌+◌, ◌^◌, ◌<◌, ◌≤◌, Bool, true, false, cond, not, List, [], ◌∷◌, map, length, filter, refl, sym, ap, subst, arith, nat_eq, ne_eqb, Less, Equal, Greater}
+use Rattle.std.proofs.Common.{◌≡◌, ℕ, ◌+◌, ◌<◌, Bool, true, false, cond, not, List, [], ◌∷◌, map, filter, refl, sym, ap, subst, arith, nat_eq, ne_eqb, Less, Equal, Greater}
 use Rattle.std.proofs.lemmas.List.Elements.{All-from_recursion, recursion_from_All}
 use Rattle.std.specs.List.{AllByRecursion, IsDistinct}
 use Rattle.std.specs.Ordering.{eq_by_cmp}
@@ -13,7 +13,6 @@ use Rattle.mt_chain.specs.Rows.{Rows, key_at, with_row, without_row}
 use Rattle.mt_chain.specs.Puts.{next_tag, counter_after, rows_after, all_rows_after, all_counter_after}
 use Rattle.mt_mem.specs.Memory.{IsGiven, AreRows, Memory, IsMemory, done_in}
 use Rattle.mt_chain.proofs.RowLaws.{rising_with_row, rising_without_row}
-use Rattle.mt_chain.proofs.PutLaws.{counter_rises}
 
 abbrev Entry : Type 0
 Entry = Key × Stored
@@ -87,15 +86,15 @@ apart_filter test (e ∷ rows) h = elim (test e) as (λ b. IsDistinct nat_eq (ma
 
 above_given : (store n : ℕ) (rows : Rows) → AllByRecursion (λ (e : Entry). IsGiven store n e.1.tag) rows → Above (n + 1) rows
 above_given store n [] h = tt
-above_given store n (e ∷ rows) h = ((let l = h.0.2 in omega arith), above_given store n rows h.1)
+above_given store n (e ∷ rows) h = ((let l = h.0.1 in omega arith), above_given store n rows h.1)
 
 rows_with : (store n : ℕ) (pk rk : List ℕ) (s : Stored) (rows : Rows) → s.tag ≡ next_tag store n → AreRows store n rows → AreRows store (n + 1) (with_row rows pk rk s)
 rows_with store n pk rk s rows tag h =
     let given = recursion_from_All (λ (e : Entry). IsGiven store n e.1.tag) rows h.given in
     let number = ap (λ t. t.n) tag in record {
       rising = rising_with_row rows pk rk s h.rising;
-      given = All-from_recursion _ _ (all_put (λ e. IsGiven store (n + 1) e.1.tag) (key_at pk rk) s (λ x. (ap (λ t. t.store) tag, omega (arith, number), omega (arith, number))) rows
-          (weaker (λ (e : Entry). IsGiven store n e.1.tag) (λ e. IsGiven store (n + 1) e.1.tag) (λ e g. (g.0, g.1, omega (arith, g.2))) rows given));
+      given = All-from_recursion _ _ (all_put (λ e. IsGiven store (n + 1) e.1.tag) (key_at pk rk) s (λ x. (ap (λ t. t.store) tag, omega (arith, number))) rows
+          (weaker (λ (e : Entry). IsGiven store n e.1.tag) (λ e. IsGiven store (n + 1) e.1.tag) (λ e g. (g.0, omega (arith, g.1))) rows given));
       apart = apart_put (key_at pk rk) s rows (subst (λ m. Above m rows) (sym number) (above_given store n rows given)) h.apart;
     }
 
@@ -118,18 +117,15 @@ rows_after_puts store n pk [] rows h = h
 rows_after_puts store n pk (put ∷ puts) rows h = rows_after_puts store (counter_after n put) pk puts (rows_after store n pk put rows) (rows_after_put store n pk put rows h)
 
 -- a store in memory stays one
-pub memory_done : (m : Memory) (pk : List ℕ) (puts : List Put) → m.counter + length puts ≤ 2 ^ 62 → IsMemory m → IsMemory (done_in m pk puts)
-memory_done m pk puts room h = record {
-  rows = rows_after_puts m.store m.counter pk puts m.rows h.rows;
-  bounded = (let up = (counter_rises m.counter puts).1 in omega arith);
-}
+pub memory_done : (m : Memory) (pk : List ℕ) (puts : List Put) → IsMemory m → IsMemory (done_in m pk puts)
+memory_done m pk puts h = rows_after_puts m.store m.counter pk puts m.rows h
 
 pub memory_planned : (m : Memory) (pk : List ℕ) (puts : List Put) (rows : Rows) (counter : ℕ)
-    → rows ≡ all_rows_after m.store m.counter pk puts m.rows → counter ≡ all_counter_after m.counter puts → m.counter + length puts ≤ 2 ^ 62 → IsMemory m
+    → rows ≡ all_rows_after m.store m.counter pk puts m.rows → counter ≡ all_counter_after m.counter puts → IsMemory m
     → IsMemory (record { store = m.store; rows = rows; sealed = m.sealed; counter = counter; calls = m.calls; faults = m.faults; failing = m.failing })
-memory_planned m pk puts rows counter same count room h = subst IsMemory
+memory_planned m pk puts rows counter same count h = subst IsMemory
     (λ i. record { store = m.store; rows = sym same i; sealed = m.sealed; counter = sym count i; calls = m.calls; faults = m.faults; failing = m.failing })
-    (memory_done m pk puts room h)
+    (memory_done m pk puts h)
 
 none_apart : IsDistinct nat_eq []
 unfolding IsDistinct

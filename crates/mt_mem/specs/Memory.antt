@@ -19,19 +19,19 @@ pub record Memory : Type 0 where
   pub faults : ℕ
   pub failing : List ℕ
 
--- the tag is one that the store gave
+-- the tag is of that store, and at most the counter
 abbrev pub IsGiven : ℕ → ℕ → Tag → Type 0
-IsGiven store counter tag = (tag.store ≡ store) × (1 ≤ tag.n) × (tag.n ≤ counter)
+IsGiven store counter tag = (tag.store ≡ store) × (tag.n ≤ counter)
 
--- rows whose keys rise, whose tags the store gave, no two of them the same
+-- rows whose keys rise, with tags of that store up to the counter, no two of them the same
 pub record AreRows (store counter : ℕ) (rows : Rows) : Type 0 where
   pub rising : IsTrue (are_rising rows)
   pub given : All (λ e. IsGiven store counter e.1.tag) rows
   pub apart : IsDistinct nat_eq (map (λ e. e.1.tag.n) rows)
 
-pub record IsMemory (m : Memory) : Type 0 where
-  pub rows : AreRows m.store m.counter m.rows
-  pub bounded : m.counter ≤ 2 ^ 62
+-- what a store in memory keeps whatever is asked of it
+abbrev pub IsMemory : Memory → Type 0
+IsMemory m = AreRows m.store m.counter m.rows
 
 abbrev pub contents_of : Memory → Contents
 contents_of m = record { rows = m.rows; sealed = m.sealed; counter = m.counter }

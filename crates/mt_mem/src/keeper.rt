@@ -12,7 +12,7 @@ use crate::judge::unmet;
 use crate::lookup::{Row, has_partition};
 use crate::rewrite::Rewrite;
 use mt_chain::{Found, KeepFault, Keeper, Next, PkFrom, Puts, RangeQuery, StoredRow, Tags};
-use mt_model::Text;
+use mt_model::{NoMemory, Text};
 use std::alloc::Global;
 use std::collections::VecDeque;
 use std::marker::Model;
@@ -66,8 +66,9 @@ impl MemKeeper {
     /// A store of this number that has these rows, with their partition keys, and gave so many tags; it
     /// fails at the listed calls. Takes no memory.
     ///
-    /// The keys of the rows rise, by partition key and then by row key. Their tags are of this store, of
-    /// the numbers from 1 to the counter, and no two are the same. The counter is at most 2^62.
+    /// The keys of the rows rise, by partition key and then by row key. Their tags are of this store and
+    /// at most the counter, and no two are the same. From a counter of 2^62 on each call of `apply`
+    /// fails.
     pub fn with_rows(
         store: u32,
         rows: Vec<(Text, StoredRow)>,
@@ -76,7 +77,6 @@ impl MemKeeper {
         failing: Vec<u64>,
     ) -> MemKeeper
         requires rows { AreRows store counter (entries rows.items) }
-        requires bounded { counter ≤ 2 ^ 62 }
         ensures { result ≡ record { store = store; rows = entries rows.items; sealed = sealed; counter = counter; calls = 0; faults = 0; failing = failing.items } }
     {
         MemKeeper {
@@ -103,7 +103,7 @@ impl MemKeeper {
         requires { CanApply puts.now }
         ensures { result ≡ is_at_end self.now puts.now }
     {
-        self.counter + puts.as_slice().len() as u64 > END
+        self.counter.saturating_add(puts.as_slice().len() as u64) > END
     }
 
     /// Counts a call that fails or does not.
@@ -212,7 +212,7 @@ impl Keeper for MemKeeper {
                 pk,
                 sealed: self.sealed,
             }),
-            Err(_) => Err(KeepFault::NoMemory),
+            Err(NoMemory) => Err(KeepFault::NoMemory),
         }
     }
 

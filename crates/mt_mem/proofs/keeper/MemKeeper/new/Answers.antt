@@ -1,11 +1,8 @@
-use Rattle.std.proofs.Common.{subst, sym, arith}
+use Rattle.std.proofs.Common.{subst, sym}
 use Rattle.mt_mem.specs.Memory.{AreRows}
 use Rattle.mt_mem.specs.Entries.{entries}
 use Rattle.mt_mem.proofs.TagLaws.{no_rows_yet}
 use Rattle.mt_mem.proofs.keeper.MemKeeper.new.Goals as goal
 
 pub invariant_of-result : goal.invariant_of-result
-invariant_of-result c = record {
-  rows = subst (λ rs. AreRows c.args.store 0 (entries rs)) (sym c.new.ensures.items) (no_rows_yet c.args.store 0);
-  bounded = omega arith;
-}
+invariant_of-result c = subst (λ rs. AreRows c.args.store 0 (entries rs)) (sym c.new.ensures.items) (no_rows_yet c.args.store 0)

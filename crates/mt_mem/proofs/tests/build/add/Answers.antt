@@ -6,7 +6,7 @@ use Rattle.std.specs.Cmp.Lexicographic.{nat_list_eq_equiv}
 use Rattle.mt_chain.specs.declared.row.Put.{Put}
 use Rattle.mt_chain.specs.Puts.{row_key}
 use Rattle.mt_chain.proofs.PutLaws.{is_named}
-use Rattle.mt_mem.proofs.tests.add.Goals as goal
+use Rattle.mt_mem.proofs.tests.build.add.Goals as goal
 
 keys_named : (q : List ℕ) (puts : List Put) → list_any (bytes_eq q) (map row_key puts) ≡ is_named q puts
 keys_named q [] = refl

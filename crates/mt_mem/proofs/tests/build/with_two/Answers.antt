@@ -7,7 +7,7 @@ use Rattle.mt_model.specs.Key.{key_cmp}
 use Rattle.mt_chain.specs.declared.row.Stored.{Stored}
 use Rattle.mt_mem.specs.Entries.{Row, entry, entries}
 use Rattle.mt_mem.specs.Memory.{IsGiven, AreRows}
-use Rattle.mt_mem.proofs.tests.begun.Goals as goal
+use Rattle.mt_mem.proofs.tests.build.with_two.Goals as goal
 
 two_apart : (n m : ℕ) → nat_eq n m ≡ false → IsDistinct nat_eq (n ∷ m ∷ [])
 unfolding IsDistinct
@@ -20,12 +20,14 @@ two_rows counter a b less given also ne = record {
   apart = two_apart a.1.tag.n b.1.tag.n ne;
 }
 
-pub with_rows-requires-clause-rows : goal.with_rows-requires-clause-rows
-with_rows-requires-clause-rows c =
+pub with_rows-requires : goal.with_rows-requires
+with_rows-requires c =
     let rows : c.push-2.new.self.items ≡ c.args.first ∷ c.args.second ∷ [] = c.in_ok-push-2.ensures.items ∙ ap (λ rs. rs ++ c.args.second ∷ []) (c.in_ok-push.ensures.items ∙ ap (λ rs. rs ++ c.args.first ∷ []) c.new-rows.ensures.items) in
-    subst (λ rs. AreRows 0 c.args.counter (entries rs)) (sym rows)
-    (two_rows c.args.counter c.args.first c.args.second
-    (sym (ap is_lt c.compare.ensures) ∙ sym c.is_lt-rise.ensures ∙ c.if-not-rise.false)
-    (c.is_given.ensures c.if-not-is_given.false)
-    (c.is_given-else-not-is_given.ensures c.if-not-is_given-2.false)
-    (ne_eqb c.args.first.1.tag.n c.args.second.1.tag.n c.if-a-b.false))
+    record {
+      rows = subst (λ rs. AreRows 0 c.args.counter (entries rs)) (sym rows)
+          (two_rows c.args.counter c.args.first c.args.second
+          (sym (ap is_lt c.compare.ensures) ∙ sym c.is_lt-rise.ensures ∙ c.if-not-rise.false)
+          (c.is_given.ensures c.if-not-is_given.false)
+          (c.is_given-else-not-is_given.ensures c.if-not-is_given-2.false)
+          (ne_eqb c.args.first.1.tag.n c.args.second.1.tag.n c.if-a-b.false));
+    }

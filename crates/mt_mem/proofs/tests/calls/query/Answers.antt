@@ -3,7 +3,7 @@ use Rattle.std.specs.List.Sorted.{IsStrictlySortedBy}
 use Rattle.std.specs.Ordering.{nat_cmp}
 use Rattle.std.specs.Cmp.Lexicographic.{slice_cmp}
 use Rattle.mt_mem.proofs.AnswerLaws.{one_rising}
-use Rattle.mt_mem.proofs.tests.query.Goals as goal
+use Rattle.mt_mem.proofs.tests.calls.query.Goals as goal
 
 pub returns : goal.returns
 returns c =

@@ -1,7 +1,7 @@
-use Rattle.std.proofs.Common.{[], length, map, bytes_eq, ap, sym, subst, arith}
+use Rattle.std.proofs.Common.{[], length, map, bytes_eq, ap, sym, subst}
 use Rattle.std.specs.List.{IsDistinct}
 use Rattle.mt_chain.specs.Puts.{row_key}
-use Rattle.mt_mem.proofs.tests.puts_of.Goals as goal
+use Rattle.mt_mem.proofs.tests.build.puts_of.Goals as goal
 
 none_apart : IsDistinct bytes_eq []
 unfolding IsDistinct
@@ -12,5 +12,5 @@ loop-ask-init c =
     let none = c.new-puts.ensures.items in
     record {
       apart = subst (λ ps. IsDistinct bytes_eq (map row_key ps)) (sym none) none_apart;
-      few = (let empty = ap length none in omega (arith, empty));
+      long = ap length none;
     }
