@@ -29,7 +29,7 @@ use Rattle.mt_history.specs.declared.model.Reply.TheVariants as told
 use Rattle.mt_history.specs.Kept.{Kept, has_room}
 use Rattle.mt_history.specs.Weight.{total_weight}
 use Rattle.mt_meta.specs.Markers.{marker_key}
-use Rattle.mt_meta.specs.Facts.{row_in}
+use Rattle.mt_chain.specs.Rows.{row_in}
 use Rattle.mt_meta.specs.declared.marker.Phase.{Phase}
 use Rattle.mt_meta.specs.declared.marker.Phase.TheVariants.{UseOld, PreferOld, PreferNew}
 use Rattle.mt_batch_plan.specs.declared.place.Place.{Place}
