@@ -1,5 +1,5 @@
 -- Places in rows are places in their entries.
-use Rattle.std.proofs.Common.{◌≡◌, ℕ, ◌<◌, ◌≤◌, Bool, true, false, List, [], ◌∷◌, map, length, get_or, refl, sym, ap, ◌∙◌, subst, arith, Less, Equal, Greater, Ordering, Result, Ok, Err, Some, option_map}
+use Rattle.std.proofs.Common.{◌≡◌, ℕ, ◌<◌, ◌≤◌, Bool, true, false, List, [], ◌∷◌, map, length, get_or, refl, sym, ap, ◌∙◌, arith, Equal, Ordering, Result, Ok, Some, option_map}
 use Rattle.std.proofs.lemmas.List.{get_or-map, length-map}
 use Rattle.std.specs.List.Sorted.{IsNonDecreasingBy, IsPartitionedBy, IsPartitionPoint, IsBinarySearchResult, IsSearchInRange}
 use Rattle.std.specs.Ordering.{ordering_index}
@@ -11,18 +11,11 @@ use Rattle.mt_chain.specs.Places.{EndsAt, IsCut}
 use Rattle.mt_chain.proofs.KeyLaws.{key_ties}
 use Rattle.mt_chain.proofs.OrderLaws.{FallsByKey, RisesByKey}
 use Rattle.mt_chain.proofs.SearchLaws.{searchable, partitioned, find_at}
+use Rattle.mt_chain.proofs.Searches.{search_ends_by, ends_map, point_map}
 use Rattle.mt_mem.specs.Entries.{Row, stored, entry, entries}
 
 abbrev Entry : Type 0
 Entry = Key × Stored
-
--- the row of an entry
-abbrev pub row_of : Entry → Row
-row_of e = (e.0.pk, record { rk = e.0.rk; props = e.1.props; tag = e.1.tag })
-
--- the entry at a place is that of the row at the place
-pub at_entries : (rows : List Row) (k : ℕ) (d : Entry) → k < length rows → get_or (entries rows) k d ≡ entry (get_or rows k (row_of d))
-at_entries rows k d l = get_or-map entry rows k (row_of d) d l
 
 pub entry_at : (rows : List Row) (k : ℕ) (d : Row) → k < length rows → get_or (entries rows) k (entry d) ≡ entry (get_or rows k d)
 entry_at rows k d l = get_or-map entry rows k d (entry d) l
@@ -42,22 +35,10 @@ searchable_rows ord up rows h i j d le jl =
     let high = ap (λ (e : Entry). ordering_index (ord e.0)) (entry_at rows j d jl) in
     omega (arith, there, low, high)
 
-point_entries : (P Q : Entry → Type 0) (rows : List Row) (at : ℕ) → at ≤ length rows → IsPartitionPoint (λ r. P (entry r)) (λ r. Q (entry r)) rows at → IsPartitionPoint P Q (entries rows) at
-point_entries P Q rows at l point = (
-  (λ k d z below. subst P (sym (at_entries rows k d (omega (arith, below, l)))) (point.0 k (row_of d) z below)),
-  (λ k d z below. (let within : k < length rows = (let long = length-map rows entry in omega (arith, long, below)) in subst Q (sym (at_entries rows k d within)) (point.1 k (row_of d) z within))),
-)
-
 pub search_entries : (ord : Key → Ordering) → RisesByKey ord → (rows : List Row) (r : Result ℕ ℕ) → are_rising (entries rows) ≡ true → IsSearchInRange r (length rows)
     → IsBinarySearchResult (λ (row : Row). ord (entry row).0) rows r → EndsAt ord (entries rows) r
-search_entries ord up rows (Ok at) h bound found = (
-  (let long = length-map rows entry in omega (arith, long, bound)),
-  λ d. subst (λ (e : Entry). ord e.0 ≡ Equal) (sym (at_entries rows at d bound)) (found (row_of d)),
-)
-search_entries ord up rows (Err at) h bound found = (
-  (let long = length-map rows entry in omega (arith, long, bound)),
-  point_entries (λ e. ord e.0 ≡ Less) (λ e. ord e.0 ≡ Greater) rows at bound (found (searchable_rows ord up rows h)),
-)
+search_entries ord up rows r h bound found =
+    ends_map entry (λ (e : Entry). ord e.0) rows r (search_ends_by (λ (row : Row). ord (entry row).0) rows r (searchable_rows ord up rows h) bound found)
 
 -- ---- a test that passes the first rows
 
@@ -70,7 +51,7 @@ partitioned_rows test falls rows h i j d le jl passes =
 pub cut_entries : (test : Key → Bool) (rows : List Row) (at : ℕ) → at ≤ length rows → IsPartitionPoint (λ (r : Row). test (entry r).0 ≡ true) (λ (r : Row). test (entry r).0 ≡ false) rows at → IsCut test (entries rows) at
 cut_entries test rows at l point = (
   (let long = length-map rows entry in omega (arith, long, l)),
-  point_entries (λ e. test e.0 ≡ true) (λ e. test e.0 ≡ false) rows at l point,
+  point_map entry (λ (e : Entry). test e.0 ≡ true) (λ (e : Entry). test e.0 ≡ false) rows at l point,
 )
 
 -- ---- the row at a key

@@ -3,11 +3,11 @@ ghost use Rattle.std.specs.Prelude.{◌≡◌, ◌&&◌, ◌<◌, ◌≤◌, IsT
 ghost use Rattle.std.specs.Ordering.{nat_cmp, is_lt, is_le};
 ghost use Rattle.std.specs.Cmp.Lexicographic.{slice_cmp};
 ghost use Rattle.mt_model.specs.Key.{key_cmp};
-ghost use Rattle.mt_chain.specs.Rows.{are_rising, key_at, row_at, has_partition, shown, is_from, is_upto, is_past, is_within, limited, is_beyond};
+ghost use Rattle.mt_chain.specs.Rows.{are_rising, key_at, row_at, has_partition, shown, is_within};
 ghost use Rattle.mt_chain.specs.Places.{EndsAt, IsCut, is_before, is_not_past, is_passed};
 ghost use Rattle.mt_mem.specs.Entries.{entry, entries, stored};
 
-use mt_chain::{PkFrom, Range, RkFrom, StoredRow};
+use mt_chain::{PkFrom, Range, RkFrom, StoredRow, is_upto};
 use mt_model::Text;
 use std::cmp::Ordering;
 
@@ -61,42 +61,11 @@ pub fn has_partition(rows: &[Row], pk: &Text) -> bool
     found.is_ok()
 }
 
-/// Whether a row key lies at or after the place where a range begins.
-fn is_from(from: &RkFrom, rk: &Text) -> bool
-    ensures { result ≡ is_from from.now rk.now }
-{
-    match from {
-        RkFrom::Start => true,
-        RkFrom::From(low) => low <= rk,
-        RkFrom::After(low) => low < rk,
-    }
-}
-
-/// Whether a row key does not lie past the end of a range.
-fn is_upto(upto: &Option<Text>, rk: &Text) -> bool
-    ensures { result ≡ is_upto upto.now rk.now }
-{
-    match upto {
-        None => true,
-        Some(high) => rk <= high,
-    }
-}
-
-/// Whether a partition key lies at or after a place.
-fn is_past(at: &PkFrom, pk: &Text) -> bool
-    ensures { result ≡ is_past at.now pk.now }
-{
-    match at {
-        PkFrom::From(low) => low <= pk,
-        PkFrom::After(low) => low < pk,
-    }
-}
-
 /// Whether a row comes before the range of a partition that begins there.
 fn is_before(pk: &Text, from: &RkFrom, row: &Row) -> bool
     ensures { result ≡ is_before pk.now from.now (entry row.now).0 }
 {
-    row.0 < *pk || (row.0 == *pk && !is_from(from, &row.1.rk))
+    row.0 < *pk || (row.0 == *pk && !from.admits(&row.1.rk))
 }
 
 /// Whether a row does not come past the range of a partition that ends there.
@@ -141,5 +110,5 @@ pub fn place_past(rows: &[Row], at: &PkFrom) -> usize
     requires { IsTrue (are_rising (entries rows.now)) }
     ensures { IsCut (is_passed at.now) (entries rows.now) result }
 {
-    rows.partition_point(|row| !is_past(at, &row.0))
+    rows.partition_point(|row| !at.admits(&row.0))
 }
