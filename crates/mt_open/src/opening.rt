@@ -1,6 +1,6 @@
 //! Two stores opened as one table.
 ghost use Rattle.std.specs.Prelude.{◌≡◌};
-ghost use Rattle.mt_open.specs.Holdings.{pair_of};
+ghost use Rattle.mt_open.specs.Holdings.{pair_in};
 ghost use Rattle.mt_open.specs.Opening.{Holds, Opens, Finds, fault_of, damaged};
 
 use crate::damage::Damage;
@@ -12,9 +12,6 @@ use crate::walk::logical_table;
 use mt_chain::Keeper;
 use mt_model::{Entities, Key, NoMemory};
 use std::alloc::Global;
-
-#[cfg(test)]
-mod tests;
 
 /// Why two stores were not opened.
 #[derive(Debug, Drop, PartialEq, Eq)]
@@ -80,12 +77,12 @@ fn damaged(damage: Damage) -> OpenFault
 
 /// The logical table of two stores that were read whole, or where they are first damaged.
 fn table_of(alloc: Global, stores: &Holdings) -> Result<Entities, OpenFault>
-    ensures { Finds (pair_of stores.now) result }
+    ensures { Finds (pair_in stores.now) result }
 {
     match first_damage(alloc, stores) {
         Ok(None) => Ok(logical_table(alloc, stores)?),
         Ok(Some(damage)) => Err(damaged(damage)),
-        Err(_) => Err(OpenFault::NoMemory),
+        Err(NoMemory) => Err(OpenFault::NoMemory),
     }
 }
 
@@ -94,8 +91,8 @@ fn table_of(alloc: Global, stores: &Holdings) -> Result<Entities, OpenFault>
 ///
 /// Rows come only of a sound pair. `Damaged` comes only of one that is not, with the first damage: by
 /// the rules in their order, then by the least key, and at equal keys old before new. `StoreFault`
-/// comes only where one of the two stores failed, and its count of faults rose. The contents of both
-/// stay as they were, whatever is answered.
+/// comes only where one of the two stores failed, and its count of faults rose; after every other answer
+/// both counts are as before. The contents of both stay as they were, whatever is answered.
 pub fn open_pair<K: Keeper>(
     alloc: Global,
     old_store: &mut K,
