@@ -1,6 +1,5 @@
 -- A step of a batch call, over two told stores that are a sound pair.
-use Rattle.std.proofs.Common.{◌≡◌, ◌⊎◌, ℕ, Bool, true, false, List, [], ◌∷◌, map, refl, sym, ap, ◌∙◌, subst, arith, inl, inr, Some, None, Option, option_map, Ok, All}
-use Rattle.std.specs.Prelude.{is_none}
+use Rattle.std.proofs.Common.{◌≡◌, ℕ, Bool, true, false, List, [], ◌∷◌, map, refl, sym, ap, ◌∙◌, subst, arith, inl, Some, None, Option, option_map, Ok, All}
 use Rattle.std.specs.List.{AllByRecursion}
 use Rattle.std.proofs.lemmas.List.Elements.{All-from_recursion, recursion_from_All}
 use Rattle.mt_model.specs.declared.key.KeyPart.TheVariants.{Partition}
@@ -13,37 +12,50 @@ use Rattle.mt_chain.specs.declared.row.Put.TheVariants as put
 use Rattle.mt_chain.specs.declared.op.Op.{Op}
 use Rattle.mt_chain.specs.declared.op.Refusal.{Refusal}
 use Rattle.mt_chain.specs.declared.query.Found.{Found}
+use Rattle.mt_chain.specs.declared.ask.Side.TheVariants.{Old}
 use Rattle.mt_chain.specs.declared.ask.StoreAsk.{StoreAsk}
 use Rattle.mt_chain.specs.declared.ask.StoreReply.{StoreReply}
 use Rattle.mt_chain.specs.declared.ask.StoreReply.TheVariants as reply
-use Rattle.mt_chain.specs.Rows.{row_at, shown, named_rows}
-use Rattle.mt_chain.specs.Puts.{row_key, holds, counter_after, has_tag}
+use Rattle.mt_chain.specs.Rows.{shown, named_rows, row_in}
+use Rattle.mt_chain.specs.Puts.{counter_after}
 use Rattle.mt_chain.specs.StoreCall.{Contents, Done, judge, IsFound}
 use Rattle.mt_chain.specs.Table.{Table, empty_table}
 use Rattle.mt_chain.specs.Effect.{op_key}
 use Rattle.mt_chain.specs.Batch.{refusal_of}
-use Rattle.mt_chain.proofs.PutLaws.{Each, Held, each_held, all_hold, counter_one}
-use Rattle.mt_chain.proofs.JudgeLaws.{WasDone, was_done, was_unmet, was_sealed_off, sealed_off_parts}
-use Rattle.mt_chain.proofs.BatchLaws.{none_refuses, same_refusal}
+use Rattle.mt_chain.proofs.PutLaws.{Each, each_held, counter_one}
+use Rattle.mt_chain.proofs.JudgeLaws.{WasDone, was_done}
+use Rattle.mt_chain.proofs.Theorems.{same_refusal}
 use Rattle.mt_rules.specs.Batches.{MayAsk, IsBatch, partition_of}
 use Rattle.mt_meta.specs.declared.marker.Phase.{Phase}
 use Rattle.mt_meta.specs.declared.marker.Phase.TheVariants.{UseOld, PreferOld, PreferNew}
 use Rattle.mt_meta.specs.Markers.{marker_key, old_phase_of}
-use Rattle.mt_meta.specs.Logical.{Pair, NoOld, AtUseOld, old_says, old_state, old_at, old_state_at, logical}
+use Rattle.mt_meta.specs.Logical.{Pair, old_says, old_state, old_at, old_state_at, logical}
 use Rattle.mt_meta.specs.Sound.{IsSound}
-use Rattle.mt_meta.specs.Facts.{InOld, is_in, row_in}
+use Rattle.mt_meta.specs.declared.fact.Fact.{Fact}
+use Rattle.mt_meta.specs.Facts.{AllPlain, Grows, is_in}
 use Rattle.mt_meta.specs.Steps.{as_row, AllHold, row_facts, logical_table, with_old, PairMeans}
-use Rattle.mt_meta.proofs.Growth.{grows_self, no_rows}
+use Rattle.mt_meta.proofs.Growth.{grows_self}
+use Rattle.mt_meta.proofs.Actors.{plain_apart, plain_rows}
 use Rattle.mt_batch_plan.specs.declared.place.Place.{Place}
 use Rattle.mt_batch_plan.specs.declared.place.Place.TheVariants.{ReadOld, WriteOld, BirthOld}
 use Rattle.mt_batch_plan.specs.declared.call.BatchProgress.{BatchProgress}
 use Rattle.mt_batch_plan.specs.declared.call.BatchProgress.TheVariants.{More, Written}
-use Rattle.mt_batch_plan.specs.Calls.{kept_in, seen_row, table_seen, tag_or, marker_tag, put_for, marker_check, marker_birth, writes_old, AreNames, IsInOrder, Asks, decided, decide, marker_says, saw_old, saw, AnswersTags, Absorbs, is_write_marker, PlaceFits, place_facts, is_write}
-use Rattle.mt_batch_plan.specs.BatchSteps.{StaysInOld, BatchStep, IsAtUseOld, StandsOn}
+use Rattle.mt_batch_plan.specs.Calls.{kept_in, seen_row, table_seen, tag_or, marker_tag, put_for, marker_check, marker_birth, AreNames, IsInOrder, Asks, decided, decide, marker_says, saw_old, saw, AnswersTags, Absorbs, is_write_marker, PlaceFits, place_facts}
+use Rattle.mt_batch_plan.specs.BatchSteps.{Does, BatchStep}
+use Rattle.mt_batch_plan.specs.Unmoved.{StaysInOld}
 use Rattle.mt_batch_plan.proofs.OldChanges.{is_write_state, IsClientPut, OldWrite, client_old, birth_old, shows_old, shows_none}
-use Rattle.mt_batch_plan.proofs.OnTags.{IsAccepted}
-use Rattle.mt_batch_plan.proofs.OnRead.{read_at, kept_at, marker_named, ops_named, named_known, known_in, has_itself, KnowsRead, known_read, still_read, puts_hold, whole_partition, client_puts}
+use Rattle.mt_batch_plan.proofs.OnRead.{read_at, kept_at, marker_named, ops_named, named_known, known_in, KnowsRead, known_read, still_read, whole_partition, client_puts}
 use Rattle.mt_batch_plan.proofs.Writing.{all_sorted, IsOf, ops_of, row_key_of, Wrote, written}
+
+-- ---- what a step is shown to be
+
+-- a step of a batch, whatever else its actor knows, and that nothing moves in it
+pub record Stepped (ops : List Op) (retired : Bool) (p : Pair) (progress : BatchProgress) (q : Pair) (to : Place) : Type 0 where
+  pub sound : IsSound q
+  pub grows : (own : List Fact) → Grows own p q
+  pub knows : AllHold q retired (place_facts (partition_of ops) to)
+  pub does : Does ops progress p q
+  pub stays : StaysInOld p q
 
 -- ---- steps that change nothing
 
@@ -52,7 +64,7 @@ stays_self p = record { numbers = (refl, refl); new_same = refl; sealed = refl; 
 
 -- a step to a place, with what it says, that changes nothing
 abbrev StepTo : List Op → Bool → Pair → Place × BatchProgress → Type 0
-StepTo ops retired p to = BatchStep ops retired p to.1 p to.0
+StepTo ops retired p to = Stepped ops retired p to.1 p to.0
 
 begins_again : (ops : List Op) (retired : Bool) (p : Pair) → IsSound p → StepTo ops retired p (ReadOld, More)
 begins_again ops retired p sound = record { sound = sound; grows = λ own. grows_self own p sound; knows = tt; does = refl; stays = stays_self p }
@@ -93,7 +105,7 @@ empty_agrees p pk (op ∷ ops) sound none unsealed of = (
 )
 
 -- what the call saw in the answer of old is what is there
-saw_is : (ops : List Op) (p : Pair) (names : List (List ℕ)) (found : Found) → AreNames ops names → IsFound (record { pk = partition_of ops; named = names; range = None }) found p.old
+pub saw_is : (ops : List Op) (p : Pair) (names : List (List ℕ)) (found : Found) → AreNames ops names → IsFound (record { pk = partition_of ops; named = names; range = None }) found p.old
     → saw ops found ≡ saw_old ops (named_rows p.old.rows (partition_of ops) names) (option_map (shown marker_key) (old_at p (partition_of ops) marker_key)) found.sealed
 saw_is ops p names found are is =
     ap (λ rows. saw_old ops rows (row_in rows marker_key) found.sealed) is.named
@@ -120,7 +132,7 @@ module _ (ops : List Op) (retired : Bool) (p : Pair) (names : List (List ℕ)) (
   saw_law None false there is = decide_law ops retired p empty_table BirthOld sound (All-from_recursion _ ops (empty_agrees p (partition_of ops) ops sound there (sym is) (ops_of ops batch))) tt
   saw_law None true there is = begins_again ops retired p sound
 
-  read_law : (found : Found) (progress : BatchProgress) (to : Place) → IsFound (record { pk = partition_of ops; named = names; range = None }) found p.old → (to, progress) ≡ saw ops found → BatchStep ops retired p progress p to
+  read_law : (found : Found) (progress : BatchProgress) (to : Place) → IsFound (record { pk = partition_of ops; named = names; range = None }) found p.old → (to, progress) ≡ saw ops found → Stepped ops retired p progress p to
   read_law found progress to is absorbs =
       subst (StepTo ops retired p) (sym (absorbs ∙ saw_is ops p names found are is)) (saw_law (old_at p (partition_of ops) marker_key) found.sealed refl is.sealed)
 
@@ -130,7 +142,7 @@ write_law : (ops : List Op) (retired : Bool) (p : Pair) (rows : List StoredRow) 
     → ((rk : List ℕ) → KnowsRead p.old (partition_of ops) rk (kept_in rows rk)) → refusal_of ops (table_seen rows) ≡ None
     → OldWrite p (partition_of ops) (map (put_for rows) sorted) (counter_after p.old.counter first) (with_old p c)
     → WasDone p.old_number p.old (partition_of ops) (first ∷ map (put_for rows) sorted) c given
-    → AnswersTags ops (table_seen rows) given tags → BatchStep ops retired p (Written tags) (with_old p c) ReadOld
+    → AnswersTags ops (table_seen rows) given tags → Stepped ops retired p (Written tags) (with_old p c) ReadOld
 write_law ops retired p rows sorted first c given tags batch sound order knows accepted changed done answer =
     let held = each_held 0 p.old.rows (partition_of ops) (first ∷ map (put_for rows) sorted) done.met in
     let wrote : Wrote ops rows sorted p (counter_after p.old.counter first) (with_old p c) = record {
@@ -152,14 +164,14 @@ write_law ops retired p rows sorted first c given tags batch sound order knows a
 
 -- under the marker that was read
 old_law : (ops : List Op) (retired : Bool) (p : Pair) (rows : List StoredRow) (sorted : List Op) (c : Contents) (given tags : List Tag) → IsBatch ops → PlaceFits ops (WriteOld rows) → IsSound p
-    → AllHold p retired (row_facts InOld (partition_of ops) rows) → IsInOrder ops sorted
+    → AllHold p retired (row_facts Old (partition_of ops) rows) → IsInOrder ops sorted
     → judge p.old_number p.old (partition_of ops) (marker_check rows ∷ map (put_for rows) sorted) ≡ Done c given
-    → AnswersTags ops (table_seen rows) given tags → BatchStep ops retired p (Written tags) (with_old p c) ReadOld
+    → AnswersTags ops (table_seen rows) given tags → Stepped ops retired p (Written tags) (with_old p c) ReadOld
 old_law ops retired p rows sorted c given tags batch fits sound facts order judged answer = go (row_in rows marker_key) refl where
   good : Each (IsClientPut (partition_of ops)) (map (put_for rows) sorted)
   good = client_puts (partition_of ops) rows sorted (all_sorted (IsOf (partition_of ops)) ops sorted order (All-from_recursion _ ops (ops_of ops batch)))
 
-  go : (marker : Option StoredRow) → row_in rows marker_key ≡ marker → BatchStep ops retired p (Written tags) (with_old p c) ReadOld
+  go : (marker : Option StoredRow) → row_in rows marker_key ≡ marker → Stepped ops retired p (Written tags) (with_old p c) ReadOld
   go None is = (let no : false ≡ true = sym (ap is_write_marker is) ∙ fits.0 in absurd cc)
   go (Some m) is =
       let tag : marker_tag rows ≡ m.tag = ap tag_or is in
@@ -176,7 +188,7 @@ partition_whole (op ∷ ops) batch = whole_partition (op_key op).pk (op_key op).
 -- a partition that old has not
 birth_law : (ops : List Op) (retired : Bool) (p : Pair) (sorted : List Op) (c : Contents) (given tags : List Tag) → IsBatch ops → PlaceFits ops BirthOld → IsSound p → IsInOrder ops sorted
     → judge p.old_number p.old (partition_of ops) (marker_birth ∷ map (put_for []) sorted) ≡ Done c given
-    → AnswersTags ops empty_table given tags → BatchStep ops retired p (Written tags) (with_old p c) ReadOld
+    → AnswersTags ops empty_table given tags → Stepped ops retired p (Written tags) (with_old p c) ReadOld
 birth_law ops retired p sorted c given tags batch fits sound order judged answer =
     write_law ops retired p [] sorted marker_birth c given tags batch sound order (λ rk. tt) fits
     (birth_old p (partition_of ops) (map (put_for []) sorted) c given sound (partition_whole ops batch)
@@ -186,139 +198,63 @@ birth_law ops retired p sorted c given tags batch fits sound order judged answer
 -- ---- a step
 
 -- a pair whose old stays is the same
-stays_same : (p q : Pair) → q.old ≡ p.old → q ≡ with_old p q.old → q ≡ p
+pub stays_same : (p q : Pair) → q.old ≡ p.old → q ≡ with_old p q.old → q ≡ p
 stays_same p q same is = is ∙ ap (with_old p) same
 
-again : (ops : List Op) (retired : Bool) (p q : Pair) → IsSound p → q.old ≡ p.old → q ≡ with_old p q.old → BatchStep ops retired p More q ReadOld
-again ops retired p q sound same is = subst (λ x. BatchStep ops retired p More x ReadOld) (sym (stays_same p q same is)) (begins_again ops retired p sound)
+again : (ops : List Op) (retired : Bool) (p q : Pair) → IsSound p → q.old ≡ p.old → q ≡ with_old p q.old → Stepped ops retired p More q ReadOld
+again ops retired p q sound same is = subst (λ x. Stepped ops retired p More x ReadOld) (sym (stays_same p q same is)) (begins_again ops retired p sound)
 
-to_place : (ops : List Op) (retired : Bool) (p q : Pair) (progress : BatchProgress) (to from : Place) → to ≡ from → BatchStep ops retired p progress q from → BatchStep ops retired p progress q to
-to_place ops retired p q progress to from is step = subst (BatchStep ops retired p progress q) (sym is) step
+to_place : (ops : List Op) (retired : Bool) (p q : Pair) (progress : BatchProgress) (to from : Place) → to ≡ from → Stepped ops retired p progress q from → Stepped ops retired p progress q to
+to_place ops retired p q progress to from is step = subst (Stepped ops retired p progress q) (sym is) step
 
+pub stepped : (ops : List Op) (place to : Place) (a : StoreAsk) (r : StoreReply) (progress : BatchProgress) (p q : Pair) (retired : Bool)
+    → IsBatch ops → PlaceFits ops place → IsSound p → AllHold p retired (place_facts (partition_of ops) place)
+    → Asks ops place a → PairMeans a r p q → Absorbs ops place r (Ok progress) to → Stepped ops retired p progress q to
+stepped ops ReadOld to a (reply.Found found) progress p q retired batch fits sound facts asks means absorbs =
+    let m = subst (λ x. PairMeans x (reply.Found found) p q) asks.2 means in
+    subst (λ x. Stepped ops retired p progress x to) (sym (stays_same p q m.0.0 m.1)) (read_law ops retired p asks.0 batch sound asks.1 found progress to m.0.1 absorbs)
+stepped ops ReadOld to a r progress p q retired batch fits sound facts asks means absorbs = absurd absorbs
+stepped ops (WriteOld rows) to a (reply.Applied given) (Written tags) p q retired batch fits sound facts asks means absorbs =
+    let m = subst (λ x. PairMeans x (reply.Applied given) p q) asks.2 means in
+    to_place ops retired p q (Written tags) to ReadOld absorbs.0
+    (subst (λ x. Stepped ops retired p (Written tags) x ReadOld) (sym m.1) (old_law ops retired p rows asks.0 q.old given tags batch fits sound facts asks.1 m.0.0 absorbs.1))
+stepped ops (WriteOld rows) to a (reply.Unmet index) More p q retired batch fits sound facts asks means absorbs =
+    let m = subst (λ x. PairMeans x (reply.Unmet index) p q) asks.2 means in
+    to_place ops retired p q More to ReadOld absorbs (again ops retired p q sound m.0.1 m.1)
+stepped ops (WriteOld rows) to a reply.SealedOff More p q retired batch fits sound facts asks means absorbs =
+    let m = subst (λ x. PairMeans x reply.SealedOff p q) asks.2 means in
+    to_place ops retired p q More to ReadOld absorbs (again ops retired p q sound m.0.1 m.1)
+stepped ops (WriteOld rows) to a r progress p q retired batch fits sound facts asks means absorbs = absurd absorbs
+stepped ops BirthOld to a (reply.Applied given) (Written tags) p q retired batch fits sound facts asks means absorbs =
+    let m = subst (λ x. PairMeans x (reply.Applied given) p q) asks.2 means in
+    to_place ops retired p q (Written tags) to ReadOld absorbs.0
+    (subst (λ x. Stepped ops retired p (Written tags) x ReadOld) (sym m.1) (birth_law ops retired p asks.0 q.old given tags batch fits sound asks.1 m.0.0 absorbs.1))
+stepped ops BirthOld to a (reply.Unmet index) More p q retired batch fits sound facts asks means absorbs =
+    let m = subst (λ x. PairMeans x (reply.Unmet index) p q) asks.2 means in
+    to_place ops retired p q More to ReadOld absorbs (again ops retired p q sound m.0.1 m.1)
+stepped ops BirthOld to a reply.SealedOff More p q retired batch fits sound facts asks means absorbs =
+    let m = subst (λ x. PairMeans x reply.SealedOff p q) asks.2 means in
+    to_place ops retired p q More to ReadOld absorbs (again ops retired p q sound m.0.1 m.1)
+stepped ops BirthOld to a r progress p q retired batch fits sound facts asks means absorbs = absurd absorbs
+
+-- what a place knows speaks of no epoch
+place_plain : (pk : List ℕ) (place : Place) → AllPlain (place_facts pk place)
+place_plain pk ReadOld = tt
+place_plain pk (WriteOld rows) = plain_rows Old pk rows
+place_plain pk BirthOld = tt
+
+-- each step of a batch is a step of an actor
 pub batch_law : (ops : List Op) (place to : Place) (a : StoreAsk) (r : StoreReply) (progress : BatchProgress) (p q : Pair) (retired : Bool)
     → IsBatch ops → PlaceFits ops place → IsSound p → AllHold p retired (place_facts (partition_of ops) place)
-    → Asks ops place a → PairMeans a r p q → Absorbs ops place r (Ok progress) to → BatchStep ops retired p progress q to
-batch_law ops ReadOld to a (reply.Found found) progress p q retired batch fits sound facts asks means absorbs =
-    let m = subst (λ x. PairMeans x (reply.Found found) p q) asks.2 means in
-    subst (λ x. BatchStep ops retired p progress x to) (sym (stays_same p q m.0.0 m.1)) (read_law ops retired p asks.0 batch sound asks.1 found progress to m.0.1 absorbs)
-batch_law ops ReadOld to a r progress p q retired batch fits sound facts asks means absorbs = absurd absorbs
-batch_law ops (WriteOld rows) to a (reply.Applied given) (Written tags) p q retired batch fits sound facts asks means absorbs =
-    let m = subst (λ x. PairMeans x (reply.Applied given) p q) asks.2 means in
-    to_place ops retired p q (Written tags) to ReadOld absorbs.0
-    (subst (λ x. BatchStep ops retired p (Written tags) x ReadOld) (sym m.1) (old_law ops retired p rows asks.0 q.old given tags batch fits sound facts asks.1 m.0 absorbs.1))
-batch_law ops (WriteOld rows) to a (reply.Unmet index) More p q retired batch fits sound facts asks means absorbs =
-    let m = subst (λ x. PairMeans x (reply.Unmet index) p q) asks.2 means in
-    to_place ops retired p q More to ReadOld absorbs (again ops retired p q sound m.0.1 m.1)
-batch_law ops (WriteOld rows) to a reply.SealedOff More p q retired batch fits sound facts asks means absorbs =
-    let m = subst (λ x. PairMeans x reply.SealedOff p q) asks.2 means in
-    to_place ops retired p q More to ReadOld absorbs (again ops retired p q sound m.0.1 m.1)
-batch_law ops (WriteOld rows) to a r progress p q retired batch fits sound facts asks means absorbs = absurd absorbs
-batch_law ops BirthOld to a (reply.Applied given) (Written tags) p q retired batch fits sound facts asks means absorbs =
-    let m = subst (λ x. PairMeans x (reply.Applied given) p q) asks.2 means in
-    to_place ops retired p q (Written tags) to ReadOld absorbs.0
-    (subst (λ x. BatchStep ops retired p (Written tags) x ReadOld) (sym m.1) (birth_law ops retired p asks.0 q.old given tags batch fits sound asks.1 m.0 absorbs.1))
-batch_law ops BirthOld to a (reply.Unmet index) More p q retired batch fits sound facts asks means absorbs =
-    let m = subst (λ x. PairMeans x (reply.Unmet index) p q) asks.2 means in
-    to_place ops retired p q More to ReadOld absorbs (again ops retired p q sound m.0.1 m.1)
-batch_law ops BirthOld to a reply.SealedOff More p q retired batch fits sound facts asks means absorbs =
-    let m = subst (λ x. PairMeans x reply.SealedOff p q) asks.2 means in
-    to_place ops retired p q More to ReadOld absorbs (again ops retired p q sound m.0.1 m.1)
-batch_law ops BirthOld to a r progress p q retired batch fits sound facts asks means absorbs = absurd absorbs
-
--- ---- a call that no other actor comes between
-
--- where more is to do, a write that stands on what old holds
-abbrev StandsTo : List Op → Pair → Place × BatchProgress → Type 0
-StandsTo ops p to = to.1 ≡ More → (is_write to.0 ≡ true) × StandsOn p ops to.0
-
-decide_stands : (ops : List Op) (p : Pair) (r : Option Refusal) (place : Place) → is_write place ≡ true → StandsOn p ops place → StandsTo ops p (decided r place)
-decide_stands ops p None place does stands more = (does, stands)
-decide_stands ops p (Some refusal) place does stands more = absurd cc
-
-module _ (ops : List Op) (p : Pair) (names : List (List ℕ)) (at : IsAtUseOld p) (are : AreNames ops names) where
-  says_stands : (phase : Option Phase) → (old_says phase ≡ NoOld) ⊎ (old_says phase ≡ AtUseOld) → StandsTo ops p (marker_says ops (named_rows p.old.rows (partition_of ops) names) phase)
-  says_stands (Some UseOld) h more = decide_stands ops p (refusal_of ops (table_seen (named_rows p.old.rows (partition_of ops) names))) (WriteOld (named_rows p.old.rows (partition_of ops) names)) refl (names, are, refl) more
-  says_stands (Some PreferOld) (inl e) more = absurd cc
-  says_stands (Some PreferOld) (inr e) more = absurd cc
-  says_stands (Some PreferNew) (inl e) more = absurd cc
-  says_stands (Some PreferNew) (inr e) more = absurd cc
-  says_stands None (inl e) more = absurd cc
-  says_stands None (inr e) more = absurd cc
-
-  saw_stands : (marker : Option Stored) (sealed : Bool) → old_at p (partition_of ops) marker_key ≡ marker → sealed ≡ false
-      → StandsTo ops p (saw_old ops (named_rows p.old.rows (partition_of ops) names) (option_map (shown marker_key) marker) sealed)
-  saw_stands (Some s) sealed there open_old =
-      says_stands (old_phase_of s.tag.store s.props) (subst (λ (o : Option Stored). (old_state o ≡ NoOld) ⊎ (old_state o ≡ AtUseOld)) there (at.markers (partition_of ops)))
-  saw_stands None false there open_old = decide_stands ops p (refusal_of ops empty_table) BirthOld refl there
-  saw_stands None true there open_old = absurd cc
-
--- over a pair at `use-old`, a read that goes on leads to a write that stands on what old holds
-pub read_stands : (ops : List Op) (to : Place) (a : StoreAsk) (r : StoreReply) (p q : Pair)
-    → IsBatch ops → IsSound p → IsAtUseOld p → Asks ops ReadOld a → PairMeans a r p q → Absorbs ops ReadOld r (Ok More) to
-    → (is_write to ≡ true) × StandsOn q ops to
-read_stands ops to a (reply.Found found) p q batch sound at asks means absorbs =
-    let m = subst (λ x. PairMeans x (reply.Found found) p q) asks.2 means in
-    let sees = saw_is ops p asks.0 found asks.1 m.0.1 in
-    let stands = subst (StandsTo ops p) (sym (absorbs ∙ sees)) (saw_stands ops p asks.0 at asks.1 (old_at p (partition_of ops) marker_key) found.sealed refl (m.0.1.sealed ∙ at.unsealed)) refl in
-    subst (λ x. (is_write to ≡ true) × StandsOn x ops to) (sym (stays_same p q m.0.0 m.1)) stands
-read_stands ops to a r p q batch sound at asks means absorbs = absurd absorbs
-
--- ---- a write that stands is done
-
--- the puts of a write that stands hold, and old is not sealed: no other answer means anything
-is_done : (ops sorted : List Op) (rows : List StoredRow) (first : Put) (r : StoreReply) (p q : Pair) → IsAtUseOld p
-    → holds first (row_at p.old.rows (partition_of ops) (row_key first)) ≡ true → Each (Held p.old.rows (partition_of ops)) (map (put_for rows) sorted)
-    → PairMeans (writes_old (partition_of ops) first rows sorted) r p q → (given : List Tag) × (r ≡ reply.Applied given)
-is_done ops sorted rows first (reply.Applied given) p q at here rest means = (given, refl)
-is_done ops sorted rows first (reply.Unmet index) p q at here rest means =
-    let unmet = (was_unmet p.old_number p.old (partition_of ops) (first ∷ map (put_for rows) sorted) index means.0.0).unmet in
-    let met = all_hold 0 p.old.rows (partition_of ops) (first ∷ map (put_for rows) sorted) (here, rest) in
-    absurd (let no = sym met ∙ unmet in cc)
-is_done ops sorted rows first reply.SealedOff p q at here rest means =
-    let off = (sealed_off_parts p.old (partition_of ops) (was_sealed_off p.old_number p.old (partition_of ops) (first ∷ map (put_for rows) sorted) means.0.0)).0 in
-    absurd (let no = sym off ∙ at.unsealed in cc)
-is_done ops sorted rows first (reply.Found found) p q at here rest means = absurd means.0
-is_done ops sorted rows first (reply.Next next) p q at here rest means = absurd means.0
-is_done ops sorted rows first reply.SealDone p q at here rest means = absurd means.0
-
--- the rows that were read are there
-still_there : (p : Pair) (pk : List ℕ) (names : List (List ℕ)) (rows : List StoredRow) (ops : List Op) → rows ≡ named_rows p.old.rows pk names → AllByRecursion (λ op. is_in (op_key op).rk names ≡ true) ops
-    → AllByRecursion (λ op. row_at p.old.rows pk (op_key op).rk ≡ kept_in rows (op_key op).rk) ops
-still_there p pk names rows [] is named = tt
-still_there p pk names rows (op ∷ ops) is named = (
-  sym (ap (λ xs. kept_in xs (op_key op).rk) is ∙ kept_at p.old.rows pk names (op_key op).rk named.0),
-  still_there p pk names rows ops is named.1,
-)
-
-none_there : (p : Pair) (pk : List ℕ) (ops : List Op) → IsSound p → old_at p pk marker_key ≡ None → AllByRecursion (λ op. row_at p.old.rows pk (op_key op).rk ≡ kept_in [] (op_key op).rk) ops
-none_there p pk [] sound none = tt
-none_there p pk (op ∷ ops) sound none = (no_rows p sound pk none (op_key op).rk, none_there p pk ops sound none)
-
-accepted_in : (ops sorted : List Op) (rows : List StoredRow) → IsInOrder ops sorted → refusal_of ops (table_seen rows) ≡ None → AllByRecursion (IsAccepted rows) sorted
-accepted_in ops sorted rows order accepted = all_sorted (IsAccepted rows) ops sorted order (none_refuses ops (table_seen rows) accepted)
-
--- the marker that was read is there with its tag
-marker_holds : (o : Option Stored) → is_write_marker (option_map (shown marker_key) o) ≡ true → has_tag (tag_or (option_map (shown marker_key) o)) o ≡ true
-marker_holds None h = absurd cc
-marker_holds (Some s) h = has_itself s
-
--- a write that stands on what old holds is done
-pub write_done : (ops : List Op) (place : Place) (a : StoreAsk) (r : StoreReply) (p q : Pair)
-    → IsBatch ops → PlaceFits ops place → IsSound p → IsAtUseOld p → is_write place ≡ true → StandsOn p ops place
-    → Asks ops place a → PairMeans a r p q → (given : List Tag) × (r ≡ reply.Applied given)
-write_done ops ReadOld a r p q batch fits sound at does stands asks means = absurd cc
-write_done ops (WriteOld rows) a r p q batch fits sound at does stands asks means =
-    let pk = partition_of ops in
-    let sees : row_in rows marker_key ≡ option_map (shown marker_key) (old_at p pk marker_key) =
-    ap (λ xs. row_in xs marker_key) stands.2 ∙ read_at p.old.rows pk stands.0 marker_key (marker_named ops stands.0 stands.1) in
-    let named = all_sorted (λ op. is_in (op_key op).rk stands.0 ≡ true) ops asks.0 asks.1 (All-from_recursion _ ops (ops_named ops stands.0 stands.1)) in
-    is_done ops asks.0 rows (marker_check rows) r p q at
-    (subst (λ m. has_tag (tag_or m) (old_at p pk marker_key) ≡ true) (sym sees) (marker_holds (old_at p pk marker_key) (subst (λ m. is_write_marker m ≡ true) sees fits.0)))
-    (puts_hold p.old pk rows asks.0 (still_there p pk stands.0 rows asks.0 stands.2 named) (accepted_in ops asks.0 rows asks.1 fits.1))
-    (subst (λ x. PairMeans x r p q) asks.2 means)
-write_done ops BirthOld a r p q batch fits sound at does stands asks means =
-    let pk = partition_of ops in
-    is_done ops asks.0 [] marker_birth r p q at
-    (ap is_none stands)
-    (puts_hold p.old pk [] asks.0 (none_there p pk asks.0 sound stands) (accepted_in ops asks.0 [] asks.1 fits))
-    (subst (λ x. PairMeans x r p q) asks.2 means)
+    → Asks ops place a → PairMeans a r p q → Absorbs ops place r (Ok progress) to → BatchStep ops place to retired progress p q
+batch_law ops place to a r progress p q retired batch fits sound facts asks means absorbs =
+    let step = stepped ops place to a r progress p q retired batch fits sound facts asks means absorbs in
+    record {
+      sound = step.sound;
+      grows = step.grows (place_facts (partition_of ops) place);
+      knows = step.knows;
+      apart = λ f holds was. plain_apart f (place_facts (partition_of ops) to) (place_plain (partition_of ops) to);
+      stays = λ was. was;
+      retires = λ was. inl was;
+      does = step.does;
+    }

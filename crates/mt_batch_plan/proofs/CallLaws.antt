@@ -24,17 +24,15 @@ on_ok : {A E : Type 0} (P Q : A → Type 0) (r : Result A E) → ((a : A) → P 
 on_ok P Q (Ok a) f h = f a h
 on_ok P Q (Err e) f h = tt
 
-pub asks_rows : (r : Result StoreAsk NoMemory) (ops : List Op) (place : Place) (rows read : List StoredRow) (order indexes : List ℕ) (tags : List Tag) (call : Call)
-    → record { batch = ops; place = place } ≡ call → place ≡ WriteOld rows → read ≡ rows → indexes ≡ order → IsPlanned ops place order tags
-    → IfOk r (λ a. a ≡ writes_old (partition_of ops) (marker_check read) read (picked ops indexes)) → IfOk r (Asks call.batch call.place)
-asks_rows r ops place rows read order indexes tags call view at rows_are order_is plan asked =
+pub asks_rows : (r : Result StoreAsk NoMemory) (ops : List Op) (place : Place) (rows : List StoredRow) (order indexes : List ℕ) (tags : List Tag) (call : Call)
+    → record { batch = ops; place = place } ≡ call → place ≡ WriteOld rows → indexes ≡ order → IsPlanned ops place order tags
+    → IfOk r (λ a. a ≡ writes_old (partition_of ops) (marker_check rows) rows (picked ops indexes)) → IfOk r (Asks call.batch call.place)
+asks_rows r ops place rows order indexes tags call view at order_is plan asked =
     let planned : IsPlan ops (table_seen rows) order tags = subst (λ p. IsPlanned ops p order tags) at plan in
-    let made : writes_old (partition_of ops) (marker_check read) read (picked ops indexes) ≡ writes_old (partition_of ops) (marker_check rows) rows (picked ops order) =
-    ap (λ l. writes_old (partition_of ops) (marker_check l) l (picked ops indexes)) rows_are ∙ ap (λ l. writes_old (partition_of ops) (marker_check rows) rows (picked ops l)) order_is in
     subst (λ (v : Call). IfOk r (Asks v.batch v.place)) view
     (subst (λ p. IfOk r (Asks ops p)) (sym at)
-    (on_ok (λ a. a ≡ writes_old (partition_of ops) (marker_check read) read (picked ops indexes)) (Asks ops (WriteOld rows)) r
-    (λ a h. (picked ops order, in_order ops order planned.in_order, h ∙ made)) asked))
+    (on_ok (λ a. a ≡ writes_old (partition_of ops) (marker_check rows) rows (picked ops indexes)) (Asks ops (WriteOld rows)) r
+    (λ a h. (picked ops order, in_order ops order planned.in_order, h ∙ ap (λ l. writes_old (partition_of ops) (marker_check rows) rows (picked ops l)) order_is)) asked))
 
 pub asks_birth : (r : Result StoreAsk NoMemory) (ops : List Op) (place : Place) (order indexes : List ℕ) (tags : List Tag) (call : Call)
     → record { batch = ops; place = place } ≡ call → place ≡ BirthOld → indexes ≡ order → IsPlanned ops place order tags

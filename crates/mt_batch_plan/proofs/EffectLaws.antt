@@ -12,8 +12,8 @@ use Rattle.mt_chain.specs.declared.op.Op.TheVariants.{Insert, Replace, Merge, De
 use Rattle.mt_chain.specs.Effect.{Outcome, op_key, effect, cause_on, left_by, any_tag, meets, writes, unless_refused, limits_cause}
 use Rattle.mt_chain.specs.Puts.{row_key}
 use Rattle.mt_chain.specs.Batch.{refusal_of, cause_in}
-use Rattle.mt_chain.proofs.BatchLaws.{none_refuses}
-use Rattle.mt_meta.specs.Facts.{row_in}
+use Rattle.mt_chain.proofs.Theorems.{none_refuses}
+use Rattle.mt_chain.specs.Rows.{row_in}
 use Rattle.mt_batch_plan.specs.Calls.{put_of, put_on, put_for, kept_in, kept_row, table_seen}
 use Rattle.mt_batch_plan.specs.Plans.{left_props, as_left, as_seen}
 

@@ -19,7 +19,7 @@ use Rattle.mt_chain.specs.Rows.{key_at}
 use Rattle.mt_chain.specs.Table.{Table}
 use Rattle.mt_chain.specs.Effect.{op_key, told_tag, any_tag, cause_on}
 use Rattle.mt_chain.specs.Batch.{refusal_of, cause_in, tags_answered, IsReordered}
-use Rattle.mt_chain.proofs.BatchLaws.{none_refuses}
+use Rattle.mt_chain.proofs.Theorems.{none_refuses}
 use Rattle.mt_batch_plan.specs.Calls.{AnswersTags}
 use Rattle.mt_batch_plan.specs.Plans.{IsOrder, IsPlan, picked, op_or, is_delete, filled}
 use Rattle.mt_batch_plan.proofs.OrderLaws.{all_picked, in_order, order_length}

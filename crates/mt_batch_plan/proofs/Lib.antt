@@ -2,10 +2,9 @@ pub mod OldChanges
 pub mod OnRows
 pub mod OnTags
 pub mod OnRead
-pub mod OneOrder
 pub mod Writing
 pub mod BatchLaw
-pub mod FindLaws
+pub mod UnmovedLaws
 pub mod NameLaws
 pub mod EffectLaws
 pub mod OrderLaws

@@ -44,7 +44,7 @@ rising_texts xs up apart =
 
 -- ---- the keys of a batch
 
--- the marker's key is not a client's
+-- the marker's key fails the rules of keys
 marker_fault : part_fault Row marker_key ≡ Some (KeyChar Row 0)
 unfolding chars
 marker_fault = refl
@@ -53,6 +53,7 @@ no_marker : (a : Option KeyFault) (b : KeyFault) → option_or a (Some b) ≡ No
 no_marker None b e = cc
 no_marker (Some fault) b e = cc
 
+-- no client's key has the marker's row key
 pub not_marker : (pk rk : List ℕ) → key_fault pk rk ≡ None → rk ≢ marker_key
 not_marker pk rk e same = no_marker (part_fault Partition pk) (KeyChar Row 0) (rw marker_fault at (subst (λ k. key_fault pk k ≡ None) same e))
 

@@ -24,7 +24,8 @@ use Rattle.mt_meta.specs.Marks.{mark_of}
 use Rattle.mt_meta.specs.Logical.{Pair, OldState, NoOld, AtUseOld, AtPreferOld, AtPreferNew, BadOld, NoNew, old_says, old_state, old_at, new_at, old_state_at, new_state_at, from_old, logical}
 use Rattle.mt_meta.specs.Sound.{IsOldMarker, IsOldRow, IsKept, IsSound}
 use Rattle.mt_meta.specs.Modes.{Mode, Empty, AtOld, Prepared, Copying, Overlaid, Settled, NewOnly, Broken, mode_of, mode, rank, FitsMode, shown_in}
-use Rattle.mt_meta.specs.Facts.{Fact, KnowsRow}
+use Rattle.mt_meta.specs.declared.fact.Fact.{Fact}
+use Rattle.mt_meta.specs.Facts.{KnowsRow}
 use Rattle.mt_meta.specs.Steps.{with_old, StepIn}
 use Rattle.mt_meta.proofs.MarkLaws.{client_unmarked}
 use Rattle.mt_meta.proofs.Rules.{old_read, key_cases, to_modes}
@@ -34,7 +35,7 @@ use Rattle.mt_meta.proofs.Growth.{no_rows}
 use Rattle.mt_meta.proofs.StorePuts.{moves_puts, Leaves, touched, IsSeen, seen, no_row, the_row}
 use Rattle.mt_meta.proofs.Parts.{FormsAt, KeptAt, kept_on, by_part, old_early}
 use Rattle.mt_batch_plan.specs.Calls.{marker_birth, is_write_phase}
-use Rattle.mt_batch_plan.specs.BatchSteps.{StaysInOld}
+use Rattle.mt_batch_plan.specs.Unmoved.{StaysInOld}
 
 -- what a put writes; a check and a delete write nothing
 abbrev pub written_props : Put → List Prop

@@ -1,21 +1,21 @@
 -- What the rows that a batch reads say of the store, and when its puts hold.
-use Rattle.std.proofs.Common.{◌≡◌, ◌≢◌, ℕ, Bool, true, false, cond, ◌||◌, ◌==◌, List, [], ◌∷◌, map, refl, sym, ap, ◌∙◌, subst, arith, eq-eqb, bytes_eq, Some, None, Option, Ok, Err, filter}
+use Rattle.std.proofs.Common.{◌≡◌, ℕ, Bool, true, false, cond, ◌||◌, ◌==◌, List, [], ◌∷◌, map, refl, sym, ap, ◌∙◌, subst, arith, eq-eqb, bytes_eq, Some, None, Option, Ok, Err, filter}
 use Rattle.std.specs.Prelude.{option_map, is_none}
 use Rattle.std.proofs.lemmas.Bool.Decides.{nat_tests}
 use Rattle.std.proofs.lemmas.Bool.{and_parts}
 use Rattle.std.specs.List.{AllByRecursion, cons_option}
 use Rattle.std.specs.Option.{option_or}
-use Rattle.std.specs.Str.{chars}
 use Rattle.std.proofs.lemmas.List.Sorted.{list_any-IsPermutation}
 use Rattle.mt_model.specs.declared.key.KeyPart.TheVariants.{Partition, Row}
 use Rattle.mt_model.specs.declared.tag.Tag.{Tag}
 use Rattle.mt_model.specs.Key.{part_fault, key_fault}
 use Rattle.mt_model.specs.Props.{is_visible}
+use Rattle.mt_chain.specs.declared.ask.Side.TheVariants.{Old}
 use Rattle.mt_chain.specs.declared.row.Stored.{Stored}
 use Rattle.mt_chain.specs.declared.row.StoredRow.{StoredRow}
 use Rattle.mt_chain.specs.declared.op.Op.{Op}
 use Rattle.mt_chain.specs.declared.op.Op.TheVariants.{Insert, Replace, Merge, Delete, InsertOrReplace, InsertOrMerge}
-use Rattle.mt_chain.specs.Rows.{Rows, row_at, shown, named_rows}
+use Rattle.mt_chain.specs.Rows.{Rows, row_at, shown, named_rows, row_in}
 use Rattle.mt_chain.specs.Puts.{holds, has_tag, is_same_tag}
 use Rattle.mt_chain.specs.StoreCall.{Contents}
 use Rattle.mt_chain.specs.Effect.{Outcome, op_key, effect, any_tag, cause_on, left_by}
@@ -25,12 +25,13 @@ use Rattle.mt_rules.specs.Batches.{MayAsk}
 use Rattle.mt_meta.specs.Markers.{marker_key}
 use Rattle.mt_meta.specs.Logical.{Pair}
 use Rattle.mt_meta.specs.Sound.{AreTags}
-use Rattle.mt_meta.specs.Facts.{InOld, KnowsRow, is_in, row_in}
+use Rattle.mt_meta.specs.Facts.{KnowsRow, is_in}
 use Rattle.mt_meta.specs.Steps.{AllHold, row_facts}
 use Rattle.mt_batch_plan.specs.Calls.{kept_row, kept_in, seen_row, put_of, put_for, AreNames}
 use Rattle.mt_batch_plan.proofs.OldChanges.{written_props, IsClientPut}
 use Rattle.mt_batch_plan.proofs.OnRows.{all_visible, RowVisible, seen_visible, WritesVisible, writes_visible, put_key}
 use Rattle.mt_batch_plan.proofs.OnTags.{IsAccepted}
+use Rattle.mt_batch_plan.proofs.NameLaws.{not_marker}
 
 -- ---- the rows that were read
 
@@ -95,15 +96,15 @@ known_now store c pk rk s tags is = record {
   same = λ r at e. ap (λ x. x.props) (some_same r s (sym at ∙ is));
 }
 
-pub named_known : (p : Pair) (retired : Bool) (pk : List ℕ) (names : List (List ℕ)) → AreTags p.old_number p.old → AllHold p retired (row_facts InOld pk (named_rows p.old.rows pk names))
+pub named_known : (p : Pair) (retired : Bool) (pk : List ℕ) (names : List (List ℕ)) → AreTags p.old_number p.old → AllHold p retired (row_facts Old pk (named_rows p.old.rows pk names))
 named_known p retired pk [] tags = tt
 named_known p retired pk (n ∷ names) tags = go (row_at p.old.rows pk n) refl (named_known p retired pk names tags) where
-  go : (o : Option Stored) → row_at p.old.rows pk n ≡ o → AllHold p retired (row_facts InOld pk (named_rows p.old.rows pk names))
-      → AllHold p retired (row_facts InOld pk (cons_option (option_map (shown n) o) (named_rows p.old.rows pk names)))
+  go : (o : Option Stored) → row_at p.old.rows pk n ≡ o → AllHold p retired (row_facts Old pk (named_rows p.old.rows pk names))
+      → AllHold p retired (row_facts Old pk (cons_option (option_map (shown n) o) (named_rows p.old.rows pk names)))
   go None is rest = rest
   go (Some s) is rest = (known_now p.old_number p.old pk n s tags is, rest)
 
-pub known_in : (p : Pair) (retired : Bool) (pk : List ℕ) (rows : List StoredRow) → AllHold p retired (row_facts InOld pk rows) → (rk : List ℕ) (r : StoredRow) → row_in rows rk ≡ Some r → KnowsRow p.old pk rk r.props r.tag
+pub known_in : (p : Pair) (retired : Bool) (pk : List ℕ) (rows : List StoredRow) → AllHold p retired (row_facts Old pk rows) → (rk : List ℕ) (r : StoredRow) → row_in rows rk ≡ Some r → KnowsRow p.old pk rk r.props r.tag
 known_in p retired pk [] h rk r is = absurd cc
 known_in p retired pk (x ∷ rows) h rk r is =
     elim (bytes_eq rk x.rk) as (λ b. bytes_eq rk x.rk ≡ b → cond b (Some x) (row_in rows rk) ≡ Some r → KnowsRow p.old pk rk r.props r.tag) [
@@ -139,7 +140,7 @@ abbrev pub KnowsRead : Contents → List ℕ → List ℕ → Option Stored → 
 KnowsRead c pk rk None = Unit {0}
 KnowsRead c pk rk (Some s) = KnowsRow c pk rk s.props s.tag
 
-pub known_read : (p : Pair) (retired : Bool) (pk : List ℕ) (rows : List StoredRow) → AllHold p retired (row_facts InOld pk rows) → (rk : List ℕ) → KnowsRead p.old pk rk (kept_in rows rk)
+pub known_read : (p : Pair) (retired : Bool) (pk : List ℕ) (rows : List StoredRow) → AllHold p retired (row_facts Old pk rows) → (rk : List ℕ) → KnowsRead p.old pk rk (kept_in rows rk)
 known_read p retired pk rows h rk = go (row_in rows rk) refl where
   go : (o : Option StoredRow) → row_in rows rk ≡ o → KnowsRead p.old pk rk (option_map kept_row o)
   go None is = tt
@@ -208,14 +209,6 @@ both_none (Some a) b h = absurd cc
 pub whole_partition : (pk rk : List ℕ) → key_fault pk rk ≡ None → part_fault Partition pk ≡ None
 whole_partition pk rk h = (both_none (part_fault Partition pk) (part_fault Row rk) h).0
 
-marker_no_key : part_fault Row marker_key ≢ None
-unfolding chars
-marker_no_key e = absurd cc
-
--- no client's key has the marker's row key
-pub other_key : (pk rk : List ℕ) → key_fault pk rk ≡ None → rk ≢ marker_key
-other_key pk rk h same = marker_no_key (ap (part_fault Row) (sym same) ∙ (both_none (part_fault Partition pk) (part_fault Row rk) h).1)
-
 written_visible : (rk : List ℕ) (row made : Option Stored) → RowVisible made → filter is_visible (written_props (put_of rk row made)) ≡ written_props (put_of rk row made)
 written_visible rk None None h = refl
 written_visible rk None (Some made) h = all_visible made.props h
@@ -232,7 +225,7 @@ client_puts pk rows (op ∷ ops) h =
     let row = kept_in rows (op_key op).rk in
     let key : key_fault pk (op_key op).rk ≡ None = ap (λ k. key_fault k (op_key op).rk) (sym h.0.0) ∙ h.0.1.key in (
       record {
-        other = λ e. other_key pk (op_key op).rk key (sym (put_key rows op) ∙ e);
+        other = λ e. not_marker pk (op_key op).rk key (sym (put_key rows op) ∙ e);
         key = ap (key_fault pk) (put_key rows op) ∙ key;
         visible = written_visible (op_key op).rk row (left_by (effect op (seen_row row) any_tag) None)
             (left_visible (effect op (seen_row row) any_tag) (writes_visible op (seen_row row) h.0.1.visible (seen_visible row)));

@@ -146,15 +146,15 @@ write_takes store n rows op accepted does =
     takes_next store n (op_key op).rk row (effect op (seen_row row) any_tag) (leaves_row op (seen_row row) does accepted)
 
 -- the tag of what is written is of that store, above n and at most m
-abbrev pub IsGivenBetween : ℕ → ℕ → ℕ → Tagged → Type 0
-IsGivenBetween store n m o = is_write o.0 ≡ true → (o.1.store ≡ store) × (n < o.1.n) × (o.1.n ≤ m)
+abbrev pub GetsTag : ℕ → ℕ → ℕ → Tagged → Type 0
+GetsTag store n m o = is_write o.0 ≡ true → (o.1.store ≡ store) × (n < o.1.n) × (o.1.n ≤ m)
 
-from_below : (store k n m : ℕ) → k ≤ n → (xs : List Tagged) → AllByRecursion (IsGivenBetween store n m) xs → AllByRecursion (IsGivenBetween store k m) xs
+from_below : (store k n m : ℕ) → k ≤ n → (xs : List Tagged) → AllByRecursion (GetsTag store n m) xs → AllByRecursion (GetsTag store k m) xs
 from_below store k n m le [] h = tt
 from_below store k n m le (x ∷ xs) h = (λ does. (let g = h.0 does in (g.0, omega (arith, g.1), g.2)), from_below store k n m le xs h.1)
 
 pub all_given : (store n : ℕ) (rows : List StoredRow) (ops : List Op) → AllByRecursion (IsAccepted rows) ops
-    → AllByRecursion (IsGivenBetween store n (all_counter_after n (map (put_for rows) ops))) (zip ops (tags_of store n (map (put_for rows) ops)))
+    → AllByRecursion (GetsTag store n (all_counter_after n (map (put_for rows) ops))) (zip ops (tags_of store n (map (put_for rows) ops)))
 all_given store n rows [] h = tt
 all_given store n rows (op ∷ ops) h = (
   λ does. (let takes = write_takes store n rows op h.0 does in
@@ -185,7 +185,7 @@ clash_flips a b = go (is_write a.0) (is_write b.0) where
   go false true = refl
   go false false = refl
 
-none_clash : (store m : ℕ) (x : Tagged) (xs : List Tagged) → (is_write x.0 ≡ true → (n : ℕ) × (x.1.n ≡ n) × AllByRecursion (IsGivenBetween store n m) xs) → AllByRecursion (λ o. clash x o ≡ false) xs
+none_clash : (store m : ℕ) (x : Tagged) (xs : List Tagged) → (is_write x.0 ≡ true → (n : ℕ) × (x.1.n ≡ n) × AllByRecursion (GetsTag store n m) xs) → AllByRecursion (λ o. clash x o ≡ false) xs
 none_clash store m x [] h = tt
 none_clash store m x (o ∷ xs) h = (
   go (is_write x.0) (is_write o.0) refl refl,
@@ -225,9 +225,9 @@ pairs_apart (x ∷ xs) h =
 
 -- ---- in the order of the batch
 
-pub given_reordered : (store n m : ℕ) (xs ys : List Tagged) → IsPermutation ys xs → AllByRecursion (IsGivenBetween store n m) xs → AllByRecursion (IsGivenBetween store n m) ys
+pub given_reordered : (store n m : ℕ) (xs ys : List Tagged) → IsPermutation ys xs → AllByRecursion (GetsTag store n m) xs → AllByRecursion (GetsTag store n m) ys
 given_reordered store n m xs ys same h =
-    recursion_from_All (IsGivenBetween store n m) ys (All-permutation (IsGivenBetween store n m) xs ys (IsPermutation-sym ys xs same) (All-from_recursion (IsGivenBetween store n m) xs h))
+    recursion_from_All (GetsTag store n m) ys (All-permutation (GetsTag store n m) xs ys (IsPermutation-sym ys xs same) (All-from_recursion (GetsTag store n m) xs h))
 
 pub tags_apart : (store n : ℕ) (rows : List StoredRow) (sorted ops : List Op) (by_op : List Tag) → AllByRecursion (IsAccepted rows) sorted
     → IsPermutation (zip ops by_op) (zip sorted (tags_of store n (map (put_for rows) sorted))) → AllPairs (λ a b. a ≢ b) (tags_written ops by_op)

@@ -13,21 +13,22 @@ use Rattle.mt_chain.specs.Puts.{tags_of, all_counter_after}
 use Rattle.mt_chain.specs.Table.{IsSameTable}
 use Rattle.mt_chain.specs.Effect.{op_key}
 use Rattle.mt_chain.specs.Batch.{Tagged, refusal_of, names, op_at, row_after, batch_applied, unless_refusal, tags_answered, IsReordered}
+use Rattle.std.specs.Cmp.Lexicographic.{nat_list_cmp_total}
+use Rattle.mt_chain.proofs.OneList.{one_order}
 use Rattle.mt_chain.proofs.KeyLaws.{is_tied, text_true, text_false, text_differs}
-use Rattle.mt_chain.proofs.BatchLaws.{none_refuses, same_refusal, refused_alike, reordered}
+use Rattle.mt_chain.proofs.Theorems.{none_refuses, same_refusal, refused_alike, reordered}
 use Rattle.mt_rules.specs.Batches.{MayAsk, IsBatch, partition_of}
 use Rattle.mt_history.specs.Legal.{is_write, tags_written, IsGone}
 use Rattle.mt_meta.specs.Markers.{marker_key}
 use Rattle.mt_meta.specs.Logical.{Pair, logical, old_at}
-use Rattle.mt_meta.specs.Steps.{as_row, logical_table}
+use Rattle.mt_meta.specs.Steps.{as_row, logical_table, IsFresh}
 use Rattle.mt_meta.proofs.Rules.{key_cases}
 use Rattle.mt_batch_plan.specs.Calls.{kept_in, seen_row, table_seen, put_for, IsInOrder, AnswersTags}
-use Rattle.mt_batch_plan.specs.BatchSteps.{IsFresh, IsWritten}
+use Rattle.mt_batch_plan.specs.BatchSteps.{IsWritten}
 use Rattle.mt_batch_plan.proofs.OldChanges.{OldWrite}
 use Rattle.mt_batch_plan.proofs.OnRows.{Stands, rows_show}
-use Rattle.mt_batch_plan.proofs.OnTags.{answered_applied, answered_written, length-answered, answered_alike, all_gone, IsAccepted, IsGivenBetween, all_given, written_all, given_reordered, tags_apart}
-use Rattle.mt_batch_plan.proofs.OnRead.{other_key}
-use Rattle.mt_batch_plan.proofs.OneOrder.{one_order}
+use Rattle.mt_batch_plan.proofs.OnTags.{answered_applied, answered_written, length-answered, answered_alike, all_gone, IsAccepted, GetsTag, all_given, written_all, given_reordered, tags_apart}
+use Rattle.mt_batch_plan.proofs.NameLaws.{not_marker}
 
 -- ---- operations in the order of their row keys
 
@@ -54,7 +55,7 @@ ops_of ops batch = both_all (λ op. (op_key op).pk ≡ partition_of ops) MayAsk 
 
 -- a client's row key
 pub row_key_of : (pk : List ℕ) (op : Op) → IsOf pk op → (op_key op).rk ≢ marker_key
-row_key_of pk op h = other_key (op_key op).pk (op_key op).rk h.1.key
+row_key_of pk op h = not_marker (op_key op).pk (op_key op).rk h.1.key
 
 -- ---- one write
 
@@ -70,8 +71,8 @@ no_and : (a : Bool) → (a && false) ≡ false
 no_and true = refl
 no_and false = refl
 
-not_marker : (pk : List ℕ) (key : Key) (op : Op) → IsOf pk op → key.rk ≡ marker_key → names key op ≡ false
-not_marker pk key op h is =
+marker_unnamed : (pk : List ℕ) (key : Key) (op : Op) → IsOf pk op → key.rk ≡ marker_key → names key op ≡ false
+marker_unnamed pk key op h is =
     is_tied (op_key op) key
     ∙ ap (λ b. bytes_eq (op_key op).pk key.pk && b) (text_false (op_key op).rk key.rk (λ same. row_key_of pk op h (same ∙ is)))
     ∙ no_and (bytes_eq (op_key op).pk key.pk)
@@ -131,7 +132,7 @@ module _ (ops : List Op) (rows : List StoredRow) (sorted : List Op) (p : Pair) (
         ap (λ k. option_map as_row (logical q (partition_of ops) k)) is
         ∙ ap (λ k. option_map as_row (logical p (partition_of ops) k)) (sym is)
         ∙ ap (λ o. row_after o (logical_table p (key_at (partition_of ops) rk))) (sym (none_named sorted (tags_of p.old_number n (map (put_for rows) sorted)) (key_at (partition_of ops) rk)
-        (each_all (IsOf (partition_of ops)) (λ op. names (key_at (partition_of ops) rk) op ≡ false) (λ op h. not_marker (partition_of ops) (key_at (partition_of ops) rk) op h is) sorted of_sorted)))
+        (each_all (IsOf (partition_of ops)) (λ op. names (key_at (partition_of ops) rk) op ≡ false) (λ op h. marker_unnamed (partition_of ops) (key_at (partition_of ops) rk) op h is) sorted of_sorted)))
     | inr other ↦
         ap (option_map as_row) (w.changed.now rk other)
         ∙ rows_show p.old_number n rows (partition_of ops) (old_at p (partition_of ops)) sorted rk (stands sorted of_sorted w.still accepted_all) w.order.rising
@@ -155,12 +156,12 @@ module _ (ops : List Op) (rows : List StoredRow) (sorted : List Op) (p : Pair) (
       ∙ reordered ops by_op sorted (tags_of p.old_number n (map (put_for rows) sorted)) (logical_table p) w.batch.apart same key
       ∙ ap (λ r. unless_refusal r (batch_applied ops by_op (logical_table p)) (logical_table p) key) accepted_now
 
-  fresh_by : (by_op : List Tag) → IsReordered ops by_op sorted (tags_of p.old_number n (map (put_for rows) sorted)) → All (IsFresh p.old q.old p.old_number) (tags_written ops by_op)
+  fresh_by : (by_op : List Tag) → IsReordered ops by_op sorted (tags_of p.old_number n (map (put_for rows) sorted)) → All (IsFresh p q) (tags_written ops by_op)
   fresh_by by_op same =
       let m = all_counter_after n (map (put_for rows) sorted) in
-      All-from_recursion (IsFresh p.old q.old p.old_number) (tags_written ops by_op) (written_all (IsFresh p.old q.old p.old_number) (zip ops by_op)
-      (each_all (IsGivenBetween p.old_number n m) (λ (o : Tagged). is_write o.0 ≡ true → IsFresh p.old q.old p.old_number o.1)
-      (λ o h does. (let g = h does in record { store_is = g.0; above = omega (arith, g.1, w.above); within = omega (arith, g.2, w.counter) }))
+      All-from_recursion (IsFresh p q) (tags_written ops by_op) (written_all (IsFresh p q) (zip ops by_op)
+      (each_all (GetsTag p.old_number n m) (λ (o : Tagged). is_write o.0 ≡ true → IsFresh p q o.1)
+      (λ o h does. (let g = h does in inl (record { store_is = g.0; above = omega (arith, g.1, w.above); within = omega (arith, g.2, w.counter) })))
       (zip ops by_op)
       (given_reordered p.old_number n m (zip sorted (tags_of p.old_number n (map (put_for rows) sorted))) (zip ops by_op) same.2 (all_given p.old_number n rows sorted accepted_all))))
 
@@ -169,7 +170,7 @@ module _ (ops : List Op) (rows : List StoredRow) (sorted : List Op) (p : Pair) (
     accepted = accepted_now;
     each = length-answered ops by_op (table_seen rows) same.0;
     table = λ key. shows_batch by_op same key ∙ sym (answered_applied ops by_op (table_seen rows) (logical_table p key) key);
-    fresh = subst (All (IsFresh p.old q.old p.old_number)) (sym (answered_written ops by_op (table_seen rows))) (fresh_by by_op same);
+    fresh = subst (All (IsFresh p q)) (sym (answered_written ops by_op (table_seen rows))) (fresh_by by_op same);
     apart = subst (AllPairs (λ a b. a ≢ b)) (sym (answered_written ops by_op (table_seen rows))) (tags_apart p.old_number n rows sorted ops by_op accepted_all same.2);
     gone = subst (λ ts. All (IsGone (logical_table p)) (zip ops ts)) (answered_alike ops by_op (logical_table p) (table_seen rows) (recursion_from_All _ ops agrees))
         (All-from_recursion (IsGone (logical_table p)) _ (all_gone ops by_op (logical_table p) (recursion_from_All _ ops (none_refuses ops (logical_table p) accepted_now))));
@@ -178,6 +179,6 @@ module _ (ops : List Op) (rows : List StoredRow) (sorted : List Op) (p : Pair) (
   pub written : (given tags : List Tag) (first : Tag) → given ≡ first ∷ tags_of p.old_number n (map (put_for rows) sorted) → AnswersTags ops (table_seen rows) given tags → IsWritten ops tags p q
   written given tags first is answer =
       let rest : answer.rest ≡ tags_of p.old_number n (map (put_for rows) sorted) = rest_same answer.first first answer.rest _ (sym answer.parts ∙ is) in
-      let same = subst (λ xs. IsReordered ops answer.by_op xs (tags_of p.old_number n (map (put_for rows) sorted))) (one_order ops answer.sorted sorted answer.in_order w.order)
+      let same = subst (λ xs. IsReordered ops answer.by_op xs (tags_of p.old_number n (map (put_for rows) sorted))) (one_order nat_list_cmp_total (λ op. (op_key op).rk) ops answer.sorted sorted answer.in_order.all w.order.all answer.in_order.rising w.order.rising)
       (subst (λ ts. IsReordered ops answer.by_op answer.sorted ts) rest answer.each) in
       subst (λ ts. IsWritten ops ts p q) (sym answer.answer) (answered answer.by_op same)

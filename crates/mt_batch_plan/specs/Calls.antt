@@ -25,7 +25,8 @@ use Rattle.mt_meta.specs.declared.marker.Phase.{Phase}
 use Rattle.mt_meta.specs.declared.marker.Phase.TheVariants.{UseOld, PreferOld, PreferNew}
 use Rattle.mt_meta.specs.Markers.{marker_key, marker_props, old_kind, old_phase_of}
 use Rattle.mt_meta.specs.Logical.{from_old}
-use Rattle.mt_meta.specs.Facts.{InOld, Fact, row_in}
+use Rattle.mt_meta.specs.declared.fact.Fact.{Fact}
+use Rattle.mt_chain.specs.Rows.{row_in}
 use Rattle.mt_meta.specs.Steps.{as_row, row_facts}
 use Rattle.mt_batch_plan.specs.declared.place.Place.{Place}
 use Rattle.mt_batch_plan.specs.declared.place.Place.TheVariants.{ReadOld, WriteOld, BirthOld}
@@ -199,7 +200,7 @@ pub record CallFits (call : Call) : Type 0 where
 -- at a write, that the rows read with their tags have their properties
 abbrev pub place_facts : List ℕ → Place → List Fact
 place_facts pk ReadOld = []
-place_facts pk (WriteOld rows) = row_facts InOld pk rows
+place_facts pk (WriteOld rows) = row_facts Old pk rows
 place_facts pk BirthOld = []
 
 abbrev pub call_facts : Call → List Fact

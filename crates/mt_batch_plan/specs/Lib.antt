@@ -2,3 +2,4 @@ pub mod Calls
 pub mod Plans
 pub mod Verdicts
 pub mod BatchSteps
+pub mod Unmoved

@@ -1,9 +1,8 @@
 -- What a batch call prepares with its read, so that it answers a write without memory.
-use Rattle.std.specs.Prelude.{◌≡◌, ℕ, ◌<◌, ◌≤◌, Bool, true, false, List, [], map, length, Option, Some, None, option_map, Result, Ok, Err}
-use Rattle.std.specs.List.{range_with_len, slice_index_or, slice_set, HoldsAt}
-use Rattle.std.specs.List.Sorted.{IsStrictlySortedBy, IsPermutation, IsPartitionPoint}
+use Rattle.std.specs.Prelude.{◌≡◌, ℕ, Bool, true, false, List, [], map, length, Option, Some, None, option_map}
+use Rattle.std.specs.List.{range_with_len, slice_index_or, slice_set}
+use Rattle.std.specs.List.Sorted.{IsStrictlySortedBy, IsPermutation}
 use Rattle.std.specs.Ordering.{nat_cmp, is_lt}
-use Rattle.std.specs.declared.cmp.Ordering.TheVariants.{Less, Equal, Greater}
 use Rattle.std.specs.Cmp.Lexicographic.{slice_cmp}
 use Rattle.mt_model.specs.declared.tag.Tag.{Tag}
 use Rattle.mt_model.specs.declared.value.Prop.{Prop}
@@ -26,11 +25,6 @@ abbrev pub is_below : List ℕ → List ℕ → Bool
 is_below a b = is_lt (slice_cmp nat_cmp a b)
 
 -- ---- the rows that were read
-
--- where a search for a key ends: at its row, or between the rows below it and those above it
-abbrev pub EndsAt : List ℕ → List StoredRow → Result ℕ ℕ → Type 0
-EndsAt rk rows (Ok at) = (at < length rows) × HoldsAt (λ s. slice_cmp nat_cmp s.rk rk ≡ Equal) rows at
-EndsAt rk rows (Err at) = (at ≤ length rows) × IsPartitionPoint (λ s. slice_cmp nat_cmp s.rk rk ≡ Less) (λ s. slice_cmp nat_cmp s.rk rk ≡ Greater) rows at
 
 -- a row that was read of the old store, as clients see it
 abbrev pub as_seen : Option StoredRow → Option Stored

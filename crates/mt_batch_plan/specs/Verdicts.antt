@@ -8,7 +8,7 @@ use Rattle.mt_chain.specs.Batch.{refusal_of}
 use Rattle.mt_meta.specs.declared.marker.Phase.{Phase}
 use Rattle.mt_meta.specs.declared.marker.Phase.TheVariants.{UseOld, PreferOld, PreferNew}
 use Rattle.mt_meta.specs.Markers.{marker_key, old_phase_of}
-use Rattle.mt_meta.specs.Facts.{row_in}
+use Rattle.mt_chain.specs.Rows.{row_in}
 use Rattle.mt_batch_plan.specs.declared.call.BatchProgress.TheVariants as progress
 use Rattle.mt_batch_plan.specs.declared.place.Place.TheVariants.{ReadOld}
 use Rattle.mt_batch_plan.specs.declared.plan.Verdict.{Verdict}

@@ -97,9 +97,7 @@ impl BatchCall {
     {
         match &self.place {
             Place::ReadOld => read_old(alloc, &self.batch),
-            Place::WriteOld { rows } => {
-                write_rows(alloc, &self.batch, &self.plan.order, rows.as_slice())
-            }
+            Place::WriteOld { rows } => write_rows(alloc, &self.batch, &self.plan.order, rows),
             Place::BirthOld => write_birth(alloc, &self.batch, &self.plan.order),
         }
     }

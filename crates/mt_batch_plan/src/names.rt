@@ -10,12 +10,10 @@ ghost use Rattle.mt_batch_plan.specs.declared.place.Place.TheVariants.{ReadOld};
 ghost use Rattle.mt_batch_plan.specs.Plans.{is_below};
 
 use mt_chain::{Ask, Op, RangeQuery, Side, StoreAsk};
+use mt_meta::MARKER_KEY;
 use mt_model::{NoMemory, Text, Texts};
 use mt_rules::Batch;
 use std::alloc::Global;
-
-/// The row key of a partition's marker.
-pub(crate) const MARKER_KEY: &str = "\u{1}";
 
 /// The marker's key, and then those of the operations in their order.
 fn copy_names(alloc: Global, ops: &[Op]) -> Result<Vec<Text>, NoMemory>

@@ -1,10 +1,10 @@
 //! What a batch call prepares with its read, so that it answers a write without memory.
 ghost use Rattle.std.specs.Prelude.{◌≡◌, ◌<◌, ◌≤◌, ◌+◌, None, IfOk, vec_len, IsPermutation, map, length, option_copied};
 ghost use Rattle.std.specs.List.{range_with_len};
-ghost use Rattle.std.specs.List.Sorted.{IsStrictlySortedBy, IsSortedBy};
+ghost use Rattle.std.specs.List.Sorted.{IsSortedBy};
 ghost use Rattle.std.specs.Ordering.{nat_cmp};
 ghost use Rattle.std.specs.Cmp.Lexicographic.{slice_cmp};
-ghost use Rattle.mt_chain.specs.Table.{Table};
+ghost use Rattle.mt_chain.specs.Table.{Table, empty_table};
 ghost use Rattle.mt_chain.specs.Effect.{op_key, told_tag, any_tag};
 ghost use Rattle.mt_chain.specs.Batch.{refusal_of};
 ghost use Rattle.mt_rules.specs.Batches.{IsBatch};
@@ -12,9 +12,9 @@ ghost use Rattle.mt_batch_plan.specs.Calls.{AnswersTags, table_seen};
 ghost use Rattle.mt_batch_plan.specs.Plans.{IsOrder, IsPlan, as_seen, is_below, is_delete, filled, op_or};
 ghost use Rattle.mt_batch_plan.specs.Verdicts.{IsJudged};
 
-use crate::judge::{refusal_on, row_named, tag_seen};
-use crate::puts::NO_TAG;
-use mt_chain::{Op, Refusal, StoredRow, Tags};
+use crate::judge::{refusal_on, tag_seen};
+use crate::puts::{NO_TAG, no_rows};
+use mt_chain::{Op, Refusal, StoredRow, StoredRows, Tags};
 use mt_model::{NoMemory, Tag};
 use std::alloc::Global;
 use std::cmp::Ordering;
@@ -112,30 +112,37 @@ fn tag_before(op: &Op, row: Option<&StoredRow>) -> Tag
 }
 
 /// The tags that deletes are answered on these rows, and no tag for other operations.
-fn tags_before(alloc: Global, ops: &[Op], rows: &[StoredRow]) -> Result<Vec<Tag>, NoMemory>
-    requires { IsStrictlySortedBy (slice_cmp nat_cmp) (map (λ s. s.rk) rows.now) }
+fn tags_before(alloc: Global, ops: &[Op], rows: &StoredRows) -> Result<Vec<Tag>, NoMemory>
     ensures { IfOk result (λ v. v.items ≡ map (λ op. told_tag op (table_seen rows.now (op_key op)) any_tag) ops.now) }
 {
     let mut tags = Vec::with_capacity(alloc, ops.len())?;
     for op in ops {
-        let row = row_named(rows, op.key().rk.as_str());
+        let row = rows.get(op.key().rk.as_str());
         tags.push(tag_before(op, row))?;
     }
     Ok(tags)
 }
 
 /// Judges a batch on rows as clients see them, and prepares its answer where none refuses.
-pub(crate) fn judged(alloc: Global, ops: &[Op], rows: &[StoredRow]) -> Result<Verdict, NoMemory>
-    requires batch { IsBatch ops.now }
-    requires rising { IsStrictlySortedBy (slice_cmp nat_cmp) (map (λ s. s.rk) rows.now) }
+pub(crate) fn judged(alloc: Global, ops: &[Op], rows: &StoredRows) -> Result<Verdict, NoMemory>
+    requires { IsBatch ops.now }
     ensures { IfOk result (IsJudged ops.now (table_seen rows.now)) }
 {
-    if let Some(refusal) = refusal_on(alloc, ops, rows)? {
+    if let Some(refusal) = refusal_on(ops, rows) {
         return Ok(Verdict::Refused(refusal));
     }
     let order = order_of(alloc, ops)?;
     let tags = tags_before(alloc, ops, rows)?;
     Ok(Verdict::Accepted(Plan { order, tags }))
+}
+
+/// The same where there is no partition.
+pub(crate) fn judged_on_none(alloc: Global, ops: &[Op]) -> Result<Verdict, NoMemory>
+    requires { IsBatch ops.now }
+    ensures { IfOk result (IsJudged ops.now empty_table) }
+{
+    let rows = no_rows(alloc);
+    judged(alloc, ops, &rows)
 }
 
 /// Fills in the tag of an operation that is no delete.

@@ -1,8 +1,5 @@
 //! The write of a batch: the marker's put, and those of the operations in the order of their row keys.
 ghost use Rattle.std.specs.Prelude.{◌≡◌, ◌∷◌, [], None, IfOk, map, filter, option_copied, option_map};
-ghost use Rattle.std.specs.List.Sorted.{IsStrictlySortedBy};
-ghost use Rattle.std.specs.Ordering.{nat_cmp};
-ghost use Rattle.std.specs.Cmp.Lexicographic.{slice_cmp};
 ghost use Rattle.mt_model.specs.Props.{is_visible};
 ghost use Rattle.mt_model.specs.Merge.{merged};
 ghost use Rattle.mt_chain.specs.Asks.{CanAsk};
@@ -15,16 +12,21 @@ ghost use Rattle.mt_rules.specs.Batches.{IsBatch, partition_of};
 ghost use Rattle.mt_batch_plan.specs.Calls.{kept_row, table_seen, put_of, put_on, put_for, marker_check, marker_birth, writes_old};
 ghost use Rattle.mt_batch_plan.specs.Plans.{IsOrder, as_seen, as_left, left_props, merged_on, picked};
 
-use crate::judge::row_named;
-use crate::names::MARKER_KEY;
-use mt_chain::{Ask, Op, Put, Puts, Side, StoreAsk, StoredRow};
-use mt_meta::{Phase, old_marker, seen_tag};
+use mt_chain::{Ask, Op, Put, Puts, Side, StoreAsk, StoredRow, StoredRows};
+use mt_meta::{MARKER_KEY, Phase, old_marker, seen_tag};
 use mt_model::{NoMemory, Props, Tag, Text};
 use mt_rules::Batch;
 use std::alloc::Global;
 
 /// The tag of no row.
 pub(crate) const NO_TAG: Tag = Tag { store: 0, n: 0 };
+
+/// The rows of a partition that is not there, which take no memory.
+pub(crate) fn no_rows(alloc: Global) -> StoredRows
+    ensures { result ≡ [] }
+{
+    StoredRows::of(Vec::new(alloc))
+}
 
 /// Properties over the visible ones of a row. Together they keep the limits, since the operation was
 /// judged, so the one error is want of memory.
@@ -94,12 +96,11 @@ fn puts_of(
     alloc: Global,
     ops: &[Op],
     order: &[usize],
-    rows: &[StoredRow],
+    rows: &StoredRows,
     first: Put,
 ) -> Result<Vec<Put>, NoMemory>
     requires batch { IsBatch ops.now }
     requires order { IsOrder ops.now order.now }
-    requires rising { IsStrictlySortedBy (slice_cmp nat_cmp) (map (λ s. s.rk) rows.now) }
     requires accepted { refusal_of ops.now (table_seen rows.now) ≡ None }
     ensures { IfOk result (λ v. v.items ≡ first ∷ map (put_for rows.now) (picked ops.now order.now)) }
 {
@@ -107,7 +108,7 @@ fn puts_of(
     puts.push(first)?;
     for index in order {
         let op = &ops[*index];
-        let row = row_named(rows, op.key().rk.as_str());
+        let row = rows.get(op.key().rk.as_str());
         puts.push(put_on(alloc, op, row)?)?;
     }
     Ok(puts)
@@ -118,12 +119,11 @@ fn write_old(
     alloc: Global,
     batch: &Batch,
     order: &[usize],
-    rows: &[StoredRow],
+    rows: &StoredRows,
     first: Put,
 ) -> Result<StoreAsk, NoMemory>
     requires first { row_key first ≡ marker_key }
     requires order { IsOrder batch.now order.now }
-    requires rising { IsStrictlySortedBy (slice_cmp nat_cmp) (map (λ s. s.rk) rows.now) }
     requires accepted { refusal_of batch.now (table_seen rows.now) ≡ None }
     ensures asks { IfOk result (λ a. a ≡ writes_old (partition_of batch.now) first rows.now (picked batch.now order.now)) }
     ensures can { IfOk result (λ a. CanAsk a.ask) }
@@ -140,12 +140,11 @@ fn write_old(
 }
 
 /// The put that checks the marker's tag.
-fn marker_check(alloc: Global, rows: &[StoredRow]) -> Result<Put, NoMemory>
-    requires { IsStrictlySortedBy (slice_cmp nat_cmp) (map (λ s. s.rk) rows.now) }
+fn marker_check(alloc: Global, rows: &StoredRows) -> Result<Put, NoMemory>
     ensures { IfOk result (λ put. put ≡ marker_check rows.now) }
 {
     let rk = Text::of(alloc, MARKER_KEY)?;
-    let tag = match row_named(rows, MARKER_KEY) {
+    let tag = match rows.get(MARKER_KEY) {
         Some(marker) => marker.tag,
         None => NO_TAG,
     };
@@ -166,10 +165,9 @@ pub(crate) fn write_rows(
     alloc: Global,
     batch: &Batch,
     order: &[usize],
-    rows: &[StoredRow],
+    rows: &StoredRows,
 ) -> Result<StoreAsk, NoMemory>
     requires order { IsOrder batch.now order.now }
-    requires rising { IsStrictlySortedBy (slice_cmp nat_cmp) (map (λ s. s.rk) rows.now) }
     requires accepted { refusal_of batch.now (table_seen rows.now) ≡ None }
     ensures asks { IfOk result (λ a. a ≡ writes_old (partition_of batch.now) (marker_check rows.now) rows.now (picked batch.now order.now)) }
     ensures can { IfOk result (λ a. CanAsk a.ask) }
@@ -190,5 +188,6 @@ pub(crate) fn write_birth(
     ensures can { IfOk result (λ a. CanAsk a.ask) }
 {
     let first = marker_birth(alloc)?;
-    write_old(alloc, batch, order, &[], first)
+    let rows = no_rows(alloc);
+    write_old(alloc, batch, order, &rows, first)
 }

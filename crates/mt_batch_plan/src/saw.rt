@@ -3,12 +3,10 @@ ghost use Rattle.std.specs.Prelude.{◌≡◌, IfOk};
 ghost use Rattle.mt_rules.specs.Batches.{IsBatch};
 ghost use Rattle.mt_batch_plan.specs.Verdicts.{Sees, reading_of};
 
-use crate::judge::row_named;
-use crate::names::MARKER_KEY;
 use crate::place::Place;
-use crate::plan::{Plan, Verdict, judged};
+use crate::plan::{Plan, Verdict, judged, judged_on_none};
 use mt_chain::{Found, Op, Refusal, StoredRows};
-use mt_meta::{Phase, old_phase};
+use mt_meta::{MARKER_KEY, Phase, old_phase};
 use mt_model::NoMemory;
 use std::alloc::Global;
 
@@ -42,7 +40,7 @@ pub(crate) enum Seen {
 fn reading_of(rows: &StoredRows, sealed: bool) -> Reading
     ensures { result ≡ reading_of rows.now sealed }
 {
-    match row_named(rows.as_slice(), MARKER_KEY) {
+    match rows.get(MARKER_KEY) {
         Some(marker) => match old_phase(marker) {
             Some(Phase::UseOld | Phase::PreferOld) => Reading::Write,
             Some(Phase::PreferNew) | None => Reading::Again,
@@ -63,14 +61,14 @@ pub(crate) fn saw(alloc: Global, ops: &[Op], found: Found) -> Result<Seen, NoMem
     let rows = found.named;
     match reading_of(&rows, found.sealed) {
         Reading::Again => Ok(Seen::Again),
-        Reading::Write => match judged(alloc, ops, rows.as_slice())? {
+        Reading::Write => match judged(alloc, ops, &rows)? {
             Verdict::Refused(refusal) => Ok(Seen::Refused(refusal)),
             Verdict::Accepted(plan) => {
                 let place = Place::WriteOld { rows };
                 Ok(Seen::Write { place, plan })
             }
         },
-        Reading::Birth => match judged(alloc, ops, &[])? {
+        Reading::Birth => match judged_on_none(alloc, ops)? {
             Verdict::Refused(refusal) => Ok(Seen::Refused(refusal)),
             Verdict::Accepted(plan) => {
                 let place = Place::BirthOld;

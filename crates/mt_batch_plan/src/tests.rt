@@ -8,6 +8,7 @@ ghost use Rattle.mt_rules.specs.Batches.{MayAsk};
 use crate::{BatchCall, BatchProgress};
 use mt_chain::{Ask, Cond, Keeper, Op, Put, Puts, StoreAsk};
 use mt_mem::MemKeeper;
+use mt_meta::MARKER_KEY;
 use mt_model::{Hidden, Key, Name, Prop, Props, Tag, Text, Value};
 use mt_rules::{Batch, check_batch};
 use std::alloc::Global;
@@ -132,7 +133,7 @@ fn row_put(alloc: Global, row: Row) -> Result<Put, Fail> {
         Row::Marker(kind) => {
             let mut props = Props::build(alloc, Vec::new(alloc))?;
             props.add_hidden(alloc, Hidden::Kind, kind)?;
-            let rk = Text::of(alloc, "\u{1}")?;
+            let rk = Text::of(alloc, MARKER_KEY)?;
             Ok(Put::Insert { rk, props })
         }
         Row::Data(rk) => {
@@ -172,7 +173,7 @@ fn disturb(alloc: Global, keeper: &mut MemKeeper, between: Between) -> Result<()
 
 /// The row key, where the marker's is shown as `^`.
 fn shown(rk: &Text) -> &str {
-    if rk.as_str() == "\u{1}" {
+    if rk.as_str() == MARKER_KEY {
         "^"
     } else {
         rk.as_str()
@@ -403,7 +404,7 @@ fn begins_again_after_a_race(rt: HostRuntime) -> Result<(), Fail> {
         &rows,
         &samples,
         Between::Nothing,
-        Between::Replace("\u{1}", 1),
+        Between::Replace(MARKER_KEY, 1),
     )?;
     let row = run(
         alloc,

@@ -3,3 +3,4 @@ pub mod CountLaws
 pub mod ListingLaws
 pub mod ReplyLaws
 pub mod WindowLaws
+pub mod Theorems

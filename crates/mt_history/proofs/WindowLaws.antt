@@ -10,7 +10,7 @@ use Rattle.mt_model.specs.declared.tag.Tag.{Tag}
 use Rattle.mt_chain.specs.declared.op.Op.{Op}
 use Rattle.mt_chain.specs.Table.{Table, IsFinite}
 use Rattle.mt_chain.specs.Batch.{batch_applied, table_after, unless_refusal}
-use Rattle.mt_chain.proofs.BatchLaws.{finite_after}
+use Rattle.mt_chain.proofs.Theorems.{finite_after}
 use Rattle.mt_history.specs.declared.entry.What.{What}
 use Rattle.mt_history.specs.declared.entry.What.TheVariants as what
 use Rattle.mt_history.specs.declared.entry.Entry.{Entry}

@@ -3,7 +3,6 @@
 
 mod entry;
 mod history;
-pub mod laws;
 pub mod model;
 mod need;
 #[cfg(test)]

@@ -1,24 +1,18 @@
-//! A plain program for the replies of entries, with which others are compared.
+//! A reference program for the replies of entries, with which others are compared.
 //!
 //! It is given a whole table as one list, and is not made to be fast.
-ghost use Rattle.std.specs.Prelude.{◌≡◌, ◌<◌, ◌^◌, IsTrue, IfOk, length, Option, Some, None, option_copied, if◌then◌else◌};
-ghost use Rattle.mt_model.specs.Key.{key_cmp};
-ghost use Rattle.mt_chain.specs.Rows.{are_rising, is_from, is_upto};
-ghost use Rattle.mt_chain.specs.Places.{EndsAt};
+ghost use Rattle.std.specs.Prelude.{◌≡◌, ◌<◌, ◌^◌, IfOk, length, Option, Some, None, if◌then◌else◌};
 ghost use Rattle.mt_chain.specs.Table.{table_of, entity_of};
-ghost use Rattle.mt_chain.specs.Effect.{cause_on};
 ghost use Rattle.mt_chain.specs.Batch.{refusal_of};
 ghost use Rattle.mt_history.specs.Replies as says;
 
 use crate::entry::What;
-use mt_chain::model::{EffectFault, Row, effect};
-use mt_chain::{Cause, Op, Refusal, RkFrom, Stored, Tags};
+use mt_chain::{Op, Refusal, RkFrom, Row, Rows, Tags, is_upto};
 use mt_filter::Filter;
 use mt_match::matches;
-use mt_model::{Entities, Entity, Key, NoMemory, Tag, Text};
+use mt_model::{Entities, Entity, Key, NoMemory, Text};
 use mt_rules::Batch;
 use std::alloc::Global;
-use std::cmp::Ordering;
 
 /// What an entry is answered.
 #[derive(Drop)]
@@ -36,56 +30,18 @@ pub enum Reply {
     NoReply,
 }
 
-/// A tag for operations of which only the refusal is asked.
-const ANY_TAG: Tag = Tag { store: 0, n: 0 };
-
-/// The place of the row at a key, or where one would stand.
-fn place_of(rows: &[Row], key: &Key) -> Result<usize, usize>
-    requires { IsTrue (are_rising rows.now) }
-    ensures { EndsAt (λ k. key_cmp k key.now) rows.now result }
-{
-    rows.binary_search_by(
-        |row: &Row| -> Ordering
-            ensures { result ≡ key_cmp row.now.0 key.entry.now }
-        { row.0.order(key) },
-    )
-}
-
-/// The row at a key.
-fn row_at<'a>(rows: &'a [Row], key: &Key) -> Option<&'a Stored>
-    requires { IsTrue (are_rising rows.now) }
-    ensures { option_copied result ≡ table_of rows.now key.now }
-{
-    match place_of(rows, key) {
-        Ok(at) => Some(&rows[at].1),
-        Err(_) => None,
-    }
-}
-
-/// Why an operation is refused on no row or on a row.
-fn cause_on(alloc: Global, op: &Op, row: Option<&Stored>) -> Result<Option<Cause>, NoMemory>
-    ensures { IfOk result (λ c. c ≡ cause_on op.now (option_copied row.entry)) }
-{
-    match effect(alloc, op, row, ANY_TAG) {
-        Ok(_) => Ok(None),
-        Err(EffectFault::Refused { cause }) => Ok(Some(cause)),
-        Err(EffectFault::NoMemory) => Err(NoMemory),
-    }
-}
-
 /// The first operation that is refused on these rows, and why.
-fn refusal_of(alloc: Global, rows: &[Row], ops: &[Op]) -> Result<Option<Refusal>, NoMemory>
-    requires rising { IsTrue (are_rising rows.now) }
-    requires few { length ops.now < 2 ^ 32 }
-    ensures { IfOk result (λ r. r ≡ refusal_of ops.now (table_of rows.now)) }
+fn refusal_of(rows: &Rows, ops: &[Op]) -> Option<Refusal>
+    requires { length ops.now < 2 ^ 32 }
+    ensures { result ≡ refusal_of ops.now (table_of rows.now) }
 {
     for (index, op) in ops.iter().enumerate() {
-        if let Some(cause) = cause_on(alloc, op, row_at(rows, op.key()))? {
+        if let Some(cause) = op.cause_on(rows.get(op.key())) {
             let index = index as u32;
-            return Ok(Some(Refusal { index, cause }));
+            return Some(Refusal { index, cause });
         }
     }
-    Ok(None)
+    None
 }
 
 /// A copy of a row.
@@ -109,32 +65,11 @@ fn is_matched(filter: &Option<Filter>, entity: &Entity) -> bool
     }
 }
 
-/// Whether a row key lies at or after the place where a range begins.
-fn is_from(from: &RkFrom, rk: &Text) -> bool
-    ensures { result ≡ is_from from.now rk.now }
-{
-    match from {
-        RkFrom::Start => true,
-        RkFrom::From(low) => low <= rk,
-        RkFrom::After(low) => low < rk,
-    }
-}
-
-/// Whether a row key does not lie past the end of a range.
-fn is_upto(upto: &Option<Text>, rk: &Text) -> bool
-    ensures { result ≡ is_upto upto.now rk.now }
-{
-    match upto {
-        None => true,
-        Some(high) => rk <= high,
-    }
-}
-
 /// Whether a key lies in a range of a partition.
 fn in_range(pk: &Text, from: &RkFrom, upto: &Option<Text>, key: &Key) -> bool
     ensures { result ≡ says.in_range pk.now from.now upto.now key.now }
 {
-    *pk == key.pk && is_from(from, &key.rk) && is_upto(upto, &key.rk)
+    *pk == key.pk && from.admits(&key.rk) && is_upto(upto, &key.rk)
 }
 
 /// A copy of the row, if the filter matches it.
@@ -175,36 +110,33 @@ fn picked(
 /// The reply of the rows of a range of a partition that the filter matches.
 fn rows_reply(
     alloc: Global,
-    rows: &[Row],
+    rows: &Rows,
     pk: &Text,
     from: &RkFrom,
     upto: &Option<Text>,
     filter: &Option<Filter>,
 ) -> Result<Reply, NoMemory>
-    requires { IsTrue (are_rising rows.now) }
     ensures { IfOk result (λ r. says.ShowsRows r (says.selected (says.in_range pk.now from.now upto.now) filter.now (table_of rows.now))) }
 {
-    let found = picked(alloc, rows, pk, from, upto, filter)?;
+    let found = picked(alloc, rows.as_slice(), pk, from, upto, filter)?;
     Ok(Reply::Rows(Entities::of(found)))
 }
 
 /// The reply of a batch that is refused on these rows.
-fn refusal_reply(alloc: Global, rows: &[Row], batch: &Batch) -> Result<Reply, NoMemory>
-    requires { IsTrue (are_rising rows.now) }
-    ensures { IfOk result (λ r. r ≡ says.refusal_reply (refusal_of batch.now (table_of rows.now))) }
+fn refusal_reply(rows: &Rows, batch: &Batch) -> Reply
+    ensures { result ≡ says.refusal_reply (refusal_of batch.now (table_of rows.now)) }
 {
-    match refusal_of(alloc, rows, batch.ops())? {
-        Some(refusal) => Ok(Reply::Refused(refusal)),
-        None => Ok(Reply::NoReply),
+    match refusal_of(rows, batch.ops()) {
+        Some(refusal) => Reply::Refused(refusal),
+        None => Reply::NoReply,
     }
 }
 
-/// What an entry is answered at the table of these rows, whose keys rise: a batch its tags, a refused
-/// batch the refusal, a query and a scan the rows of their region that the filter matches, in the
+/// What an entry is answered at the table of these rows: a batch its tags, a refused batch the refusal,
+/// a query and a scan the rows of their region that the filter matches, in the
 /// order of their keys, and a gap no rows. There is no reply to a fault, and none to a refused batch
 /// that nothing refuses on this table. The one error is want of memory.
-pub fn reply_of(alloc: Global, rows: &[Row], what: &What) -> Result<Reply, NoMemory>
-    requires { IsTrue (are_rising rows.now) }
+pub fn reply_of(alloc: Global, rows: &Rows, what: &What) -> Result<Reply, NoMemory>
     ensures { IfOk result (λ r. says.Replies what.now (table_of rows.now) r) }
 {
     match what {
@@ -212,7 +144,7 @@ pub fn reply_of(alloc: Global, rows: &[Row], what: &What) -> Result<Reply, NoMem
             let tags = Vec::from_slice(alloc, tags.as_slice())?;
             Ok(Reply::Written(Tags::of(tags)))
         }
-        What::Refused { batch } => refusal_reply(alloc, rows, batch),
+        What::Refused { batch } => Ok(refusal_reply(rows, batch)),
         What::Query { pk, filter } => rows_reply(alloc, rows, pk, &RkFrom::Start, &None, filter),
         What::Scan {
             pk,

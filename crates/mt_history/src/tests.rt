@@ -1,12 +1,11 @@
-ghost use Rattle.std.specs.Prelude.{◌≡◌, All, IsTrue, IfOk, None};
+ghost use Rattle.std.specs.Prelude.{◌≡◌, All, IfOk, None};
 ghost use Rattle.mt_model.specs.Key.{key_fault};
-ghost use Rattle.mt_chain.specs.Rows.{are_rising};
 ghost use Rattle.mt_rules.specs.Batches.{MayAsk};
 
 use crate::model::{Reply, reply_of};
 use crate::{Entry, History, MOVE_NEED, What, page_need, query_need};
-use mt_chain::model::{Row, apply_batch};
-use mt_chain::{Op, PkFrom, RkFrom, Tags};
+use mt_chain::model::apply_batch;
+use mt_chain::{Op, PkFrom, RkFrom, Rows, Tags};
 use mt_filter::{Filter, read_filter};
 use mt_model::{Entity, Key, Name, Prop, Props, Tag, Text, Value};
 use mt_rules::{Batch, check_batch};
@@ -252,23 +251,19 @@ fn keeps_its_limits(rt: HostRuntime) -> Result<(), Fail> {
 }
 
 /// The rows after inserts that have these tags.
-fn after(alloc: Global, rows: &[Sample], tags: &[Tag]) -> Result<Vec<Row>, Fail>
-    ensures { IfOk result (λ rows. IsTrue (are_rising rows.items)) }
-{
+fn after(alloc: Global, rows: &[Sample], tags: &[Tag]) -> Result<Rows, Fail> {
     let ops = inserts(alloc, rows)?;
     if ops.len() != tags.len() || ops.len() > 100 {
         return Err(Fail::new("not one tag for each of some rows"));
     }
-    match apply_batch(alloc, Vec::new(alloc), &ops, tags) {
+    match apply_batch(alloc, Rows::of(Vec::new(alloc)), &ops, tags) {
         Ok(applied) => Ok(applied.rows),
         Err(_) => Err(Fail::new("inserts were refused")),
     }
 }
 
 /// The rows (p, a), (p, b), (p, c) and (q, a) with the tags 1 to 4 and A = 1, 2, 3, 1.
-fn four_rows(alloc: Global) -> Result<Vec<Row>, Fail>
-    ensures { IfOk result (λ rows. IsTrue (are_rising rows.items)) }
-{
+fn four_rows(alloc: Global) -> Result<Rows, Fail> {
     after(
         alloc,
         &[("q", "a", 1), ("p", "c", 3), ("p", "a", 1), ("p", "b", 2)],
@@ -309,9 +304,7 @@ fn row_words(alloc: Global, rows: &[Entity]) -> Result<String, Fail> {
 }
 
 /// The words of what an entry is answered at the table of these rows.
-fn answer(alloc: Global, rows: &[Row], ask: Ask) -> Result<String, Fail>
-    requires { IsTrue (are_rising rows.now) }
-{
+fn answer(alloc: Global, rows: &Rows, ask: Ask) -> Result<String, Fail> {
     let what = what(alloc, ask)?;
     let reply = reply_of(alloc, rows, &what)?;
     words(alloc, &reply)

@@ -7,7 +7,7 @@ use Rattle.mt_chain.specs.declared.ask.Side.TheVariants.{Old, New}
 use Rattle.mt_chain.specs.declared.row.Stored.{Stored}
 use Rattle.mt_chain.specs.declared.row.StoredRow.{StoredRow}
 use Rattle.mt_chain.specs.declared.query.PkFrom.{PkFrom}
-use Rattle.mt_chain.specs.Rows.{shown}
+use Rattle.mt_chain.specs.Rows.{row_in, shown}
 use Rattle.mt_chain.specs.StoreCall.{Contents}
 use Rattle.mt_meta.specs.declared.mark.Mark.TheVariants.{Copy}
 use Rattle.mt_meta.specs.Markers.{marker_key}
@@ -19,7 +19,7 @@ use Rattle.mt_meta.specs.declared.fact.Keys.{Keys}
 use Rattle.mt_meta.specs.declared.fact.Keys.TheVariants as keys
 use Rattle.mt_meta.specs.declared.fact.Fact.{Fact}
 use Rattle.mt_meta.specs.declared.fact.Fact.TheVariants.{Row, Kept, Begun, There, Turned, Closed, Moved, Epoch, Clean, Swept, Retired}
-use Rattle.mt_meta.specs.Facts.{InKeys, is_begun, is_there, is_prefer_new, is_marked, is_filling, is_use_new, row_in, KnowsRow, KnowsKept, KnowsTurned, Exact, KnowsEpoch, KnowsClean, KnowsSwept, Holds, Apart, ApartFrom, EntryStays, Ages, Grows}
+use Rattle.mt_meta.specs.Facts.{InKeys, is_begun, is_there, is_prefer_new, is_marked, is_filling, is_use_new, KnowsRow, KnowsKept, KnowsTurned, Exact, KnowsEpoch, KnowsClean, KnowsSwept, Holds, Apart, ApartFrom, EntryStays, Ages, Grows}
 use Rattle.mt_meta.proofs.Rules.{to_modes, key_cases}
 use Rattle.mt_meta.proofs.ModeLaws.{old_in, says, begun_rank, there_rank, marked_rank, use_new_rank, up, rank_from, filling_ranks, prefer_new_ranks, ranks_filling, is_overlaid, overlaid_turned}
 

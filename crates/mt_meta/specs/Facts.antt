@@ -1,5 +1,5 @@
 -- What an actor knows of two stores between its steps, and what every step of every actor keeps.
-use Rattle.std.specs.Prelude.{◌≡◌, ◌≢◌, ◌⊎◌, ℕ, ◌≤◌, Bool, true, false, bytes_eq, List, [], ◌∷◌, find, Option, Some, None, option_map, is_some, IfSome}
+use Rattle.std.specs.Prelude.{◌≡◌, ◌≢◌, ◌⊎◌, ℕ, ◌≤◌, Bool, true, false, bytes_eq, List, [], ◌∷◌, Option, Some, None, option_map, is_some, IfSome}
 use Rattle.std.specs.List.{list_any}
 use Rattle.std.specs.Ordering.{nat_cmp, is_lt}
 use Rattle.std.specs.Cmp.Lexicographic.{slice_cmp}
@@ -10,7 +10,7 @@ use Rattle.mt_chain.specs.declared.ask.Side.TheVariants.{Old, New}
 use Rattle.mt_chain.specs.declared.row.Stored.{Stored}
 use Rattle.mt_chain.specs.declared.row.StoredRow.{StoredRow}
 use Rattle.mt_chain.specs.declared.query.PkFrom.{PkFrom}
-use Rattle.mt_chain.specs.Rows.{row_at, shown, is_from, is_upto, is_past}
+use Rattle.mt_chain.specs.Rows.{row_at, row_in, shown, is_from, is_upto, is_past}
 use Rattle.mt_chain.specs.StoreCall.{Contents}
 use Rattle.mt_meta.specs.declared.marker.NewPhase.TheVariants.{Filling}
 use Rattle.mt_meta.specs.declared.mark.Mark.TheVariants.{Copy}
@@ -69,10 +69,6 @@ is_filling n = false
 abbrev pub is_use_new : NewState → Bool
 is_use_new AtUseNew = true
 is_use_new n = false
-
--- the row of that key among rows of a partition
-abbrev pub row_in : List StoredRow → List ℕ → Option StoredRow
-row_in rows rk = find (λ (r : StoredRow). bytes_eq rk r.rk) rows
 
 -- a row of that tag has those properties, now and later
 pub record KnowsRow (c : Contents) (pk rk : List ℕ) (props : List Prop) (tag : Tag) : Type 0 where

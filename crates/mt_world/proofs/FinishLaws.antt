@@ -1,5 +1,5 @@
 -- Turns one after the other, until a call ends.
-use Rattle.std.proofs.Common.{◌≡◌, ◌∙◌, ℕ, zero, suc, ◌+◌, ◌-◌, ◌^◌, ◌≤◌, ◌<◌, true, not, ◌&&◌, List, length, nat_lt, refl, sym, ap, subst, arith, inl, inr, Option, Some, None, Result, Ok, Err}
+use Rattle.std.proofs.Common.{◌≡◌, ◌∙◌, ℕ, zero, suc, ◌+◌, ◌-◌, ◌^◌, ◌≤◌, ◌<◌, true, not, ◌&&◌, List, [], ◌∷◌, ◌++◌, length, nat_lt, refl, sym, ap, subst, arith, inl, inr, append_assoc, length-append, Option, Some, None, Result, Ok, Err}
 use Rattle.std.specs.Prelude.{nat_le, is_some}
 use Rattle.mt_model.specs.declared.tag.Tag.{Tag}
 use Rattle.mt_chain.specs.declared.op.Op.{Op}
@@ -12,6 +12,7 @@ use Rattle.mt_chain.specs.declared.ask.StoreReply.TheVariants as reply
 use Rattle.mt_chain.specs.StoreCall.{Contents}
 use Rattle.mt_chain.specs.Store.{Store, Rose}
 use Rattle.mt_chain.specs.Batch.{batch_weight}
+use Rattle.mt_history.specs.declared.entry.Entry.{Entry}
 use Rattle.mt_history.specs.Weight.{total_weight}
 use Rattle.mt_history.specs.Window.{table_at_end}
 use Rattle.mt_history.specs.Replies.{Replies}
@@ -20,18 +21,22 @@ use Rattle.mt_batch_plan.specs.declared.place.Place.TheVariants.{ReadOld, WriteO
 use Rattle.mt_batch_plan.specs.declared.call.BatchProgress.{BatchProgress}
 use Rattle.mt_batch_plan.specs.declared.call.BatchProgress.TheVariants as batch
 use Rattle.mt_batch_plan.specs.Calls.{Call, Asks, Absorbs, is_write}
-use Rattle.mt_batch_plan.specs.BatchSteps.{StandsOn}
-use Rattle.mt_batch_plan.proofs.BatchLaw.{read_stands, write_done}
+use Rattle.mt_batch_plan.specs.Unmoved.{StandsOn}
+use Rattle.mt_batch_plan.proofs.UnmovedLaws.{read_stands, write_done}
 use Rattle.mt_world.specs.declared.actor.ClientCall.TheVariants as client
 use Rattle.mt_world.specs.declared.actor.Actor.{Actor}
 use Rattle.mt_world.specs.declared.actor.Actor.TheVariants.{Client}
 use Rattle.mt_world.specs.declared.actor.Answer.{Answer}
+use Rattle.mt_world.specs.declared.actor.Answer.TheVariants.{Written, Refused}
 use Rattle.mt_world.specs.declared.actor.Progress.{Progress}
-use Rattle.mt_world.specs.declared.actor.Progress.TheVariants.{More}
+use Rattle.mt_world.specs.declared.actor.Progress.TheVariants.{More, Done}
 use Rattle.mt_world.specs.declared.actor.TurnFault.{TurnFault}
 use Rattle.mt_world.specs.declared.actor.TurnFault.TheVariants.{StoreFault, HistoryFull, NoMemory}
-use Rattle.mt_world.specs.Worlds.{WorldState, pair_of, ForPair, Tells, IsReplayed, IsWorld, table_now}
-use Rattle.mt_world.specs.Turns.{CanStep, ActorFits, progress_of, batch_after, BatchMoves, Stage, stage_of, CallsOn, OneCall, Moves, is_full, answered, asked_by, what_of, entries_with, reply_of, RepliesAt, IsSameWorld, Turns, EitherRose, last_turn, Finishes, Answers, IsAtBegin, EndsCall}
+use Rattle.mt_world.specs.Worlds.{WorldState, pair_of, ForPair, Tells, IsReplayed, IsWorld, table_now, next_number, entry_of}
+use Rattle.mt_world.specs.Moves.{NewEntry, Move, BatchMoves, batch_move, CanStep, ActorFits, IsAtBegin, turns_at_most, fault_entry, retired_by}
+use Rattle.mt_world.specs.Logs.{Adds, entries_with}
+use Rattle.mt_world.specs.Turns.{Stage, stage_of, log_of, CallsOn, OneCall, Moves, is_full, RepliesAt, IsSameWorld, Turns, EitherRose}
+use Rattle.mt_world.specs.WholeCalls.{Mark, MarkedTurn, last_turn, Finishes, EndsCall, end_of, batch_entry, AreMarksAt, BatchAnswers}
 use Rattle.mt_world.proofs.PairLaws.{for_pair, at_pair, same_pair, before, failed_rose}
 use Rattle.mt_world.proofs.EntryLaws.{window_stays}
 use Rattle.mt_world.proofs.TurnLaws.{moved}
@@ -39,9 +44,10 @@ use Rattle.mt_world.proofs.TurnLaws.{moved}
 -- ---- a turn that goes on
 
 -- the step that it is
-pub record GoesOn (call : Call) (w : WorldState) (w' : WorldState) (a' : Actor) : Type 0 where
+pub record GoesOn (call : Call) (w : WorldState) (w' : WorldState) (entry : Option NewEntry) (a' : Actor) : Type 0 where
   pub to : Call
   pub after : a' ≡ Client (client.Batch to)
+  pub none : entry ≡ None
   pub same_ops : to.batch ≡ call.batch
   pub ask : StoreAsk
   pub asks : Asks call.batch call.place ask
@@ -49,18 +55,19 @@ pub record GoesOn (call : Call) (w : WorldState) (w' : WorldState) (a' : Actor) 
   pub one : OneCall (stage_of w) ask (Ok answer) (stage_of w')
   pub absorbs : Absorbs call.batch call.place answer (Ok batch.More) to.place
 
-went : (said : BatchProgress) → More ≡ progress_of said → said ≡ batch.More
-went batch.More e = refl
-went (batch.Written tags) e = absurd cc
-went (batch.Refused refusal) e = absurd cc
+went : (to : Call) (said : BatchProgress) → More ≡ (batch_move to said).progress → said ≡ batch.More
+went to batch.More e = refl
+went to (batch.Written tags) e = absurd cc
+went to (batch.Refused refusal) e = absurd cc
 
-pub goes_on : (w w' : WorldState) (call : Call) (a' : Actor) → Moves (stage_of w) (Client (client.Batch call)) (Ok More) (stage_of w') a' → GoesOn call w w' a'
-goes_on w w' call a' m =
-    let b : BatchMoves call m.1 More a' = m.4 in
-    let more = went b.said b.progress_is in
+pub goes_on : (w w' : WorldState) (call : Call) (entry : Option NewEntry) (a' : Actor) → Moves (stage_of w) (Client (client.Batch call)) (Ok More) entry (stage_of w') a' → GoesOn call w w' entry a'
+goes_on w w' call entry a' m =
+    let b : BatchMoves call m.1 (record { progress = More; entry = entry; after = a' }) = m.4 in
+    let more = went b.to b.said (ap (λ (x : Move). x.progress) b.is) in
     record {
       to = b.to;
-      after = b.after_is ∙ ap (λ s. Client (batch_after s b.to)) more;
+      after = ap (λ (x : Move). x.after) b.is ∙ ap (λ s. (batch_move b.to s).after) more;
+      none = ap (λ (x : Move). x.entry) b.is ∙ ap (λ s. (batch_move b.to s).entry) more;
       same_ops = b.same;
       ask = m.0;
       asks = m.2;
@@ -69,9 +76,9 @@ goes_on w w' call a' m =
       absorbs = subst (λ s. Absorbs call.batch call.place m.1 (Ok s) b.to.place) more b.absorbs;
     }
 
-pub can_go_on : (w w' : WorldState) (caller : ℕ) (a a' : Actor) → CanStep a → Turns w caller a (Ok More) w' a' → CanStep a'
-can_go_on w w' caller (Client client.Ended) a' can t = absurd can
-can_go_on w w' caller (Client (client.Batch call)) a' can t = subst CanStep (sym (goes_on w w' call a' t.moves).after) tt
+pub can_go_on : (w w' : WorldState) (caller : ℕ) (a a' : Actor) (entry : Option NewEntry) → CanStep a → Turns w caller a (Ok More) entry w' a' → CanStep a'
+can_go_on w w' caller (Client client.Ended) a' entry can t = absurd can
+can_go_on w w' caller (Client (client.Batch call)) a' entry can t = subst CanStep (sym (goes_on w w' call entry a' t.moves).after) tt
 
 -- ---- how often a call may go on
 
@@ -83,8 +90,8 @@ fewer : (s s' t t' : Store) (side : Side) (ask : Ask) (r : StoreReply) → Calls
 fewer s s' t t' Old ask r h = (let e : t'.calls ≡ s'.calls = ap (λ x. x.calls) h.1 in let early = h.0.shows.0 in let counted = h.0.counted.calls in omega (arith, e, early, counted))
 fewer s s' t t' New ask r h = (let e : t.calls ≡ s.calls = ap (λ x. x.calls) h.1 in let early = h.0.shows.0 in let counted = h.0.counted.calls in omega (arith, e, early, counted))
 
-pub fewer_left : (w w' : WorldState) (caller : ℕ) (a a' : Actor) → Turns w caller a (Ok More) w' a' → calls_left w' < calls_left w
-fewer_left w w' caller a a' t = fewer w.old_store w.new_store w'.old_store w'.new_store t.moves.0.side t.moves.0.ask t.moves.1 t.moves.3.on
+pub fewer_left : (w w' : WorldState) (caller : ℕ) (a a' : Actor) (entry : Option NewEntry) → Turns w caller a (Ok More) entry w' a' → calls_left w' < calls_left w
+fewer_left w w' caller a a' entry t = fewer w.old_store w.new_store w'.old_store w'.new_store t.moves.0.side t.moves.0.ask t.moves.1 t.moves.3.on
 
 -- ---- a call that no other comes between
 
@@ -103,8 +110,8 @@ StandsAt zero w a = IsAtBegin a
 StandsAt (suc zero) w a = AtWrite w a
 StandsAt (suc (suc n)) w a = ⊥
 
-read_then : (w w' : WorldState) (call : Call) (a' : Actor) → IsWorld w → ActorFits (Client (client.Batch call)) → call.place ≡ ReadOld → IsSameWorld w w' → GoesOn call w w' a' → Tells w' → AtWrite w' a'
-read_then w w' call a' world fits begin same g tells = subst (AtWrite w') (sym g.after) (
+read_then : (w w' : WorldState) (call : Call) (entry : Option NewEntry) (a' : Actor) → IsWorld w → ActorFits (Client (client.Batch call)) → call.place ≡ ReadOld → IsSameWorld w w' → GoesOn call w w' entry a' → Tells w' → AtWrite w' a'
+read_then w w' call entry a' world fits begin same g tells = subst (AtWrite w') (sym g.after) (
   at_write,
   for_pair w' (λ p. StandsOn p g.to.batch g.to.place) (λ a b ea eb.
       subst (λ p. StandsOn p g.to.batch g.to.place) (sym (same_pair w w' same a b)) (subst (λ ops. StandsOn (pair_of w a b) ops g.to.place) (sym g.same_ops) (step a b ea eb).1)),
@@ -119,7 +126,7 @@ read_then w w' call a' world fits begin same g tells = subst (AtWrite w') (sym g
   step a b ea eb =
       let k = before w w' g.ask.side g.ask.ask g.answer a b ea eb g.one.on in
       let r = at_pair w (IsReplayed w) k.a k.b k.old k.new world.replayed in
-      read_stands call.batch g.to.place g.ask g.answer (pair_of w k.a k.b) (pair_of w a b) fits.batch r.sound r.at_use_old asks k.means absorbs
+      read_stands call.batch g.to.place g.ask g.answer (pair_of w k.a k.b) (pair_of w a b) fits.batch r.sound r.unmoved.at_use_old asks k.means absorbs
 
   at_write : is_write g.to.place ≡ true
   at_write = (let x = told_is w'.old_store.told tells.old in let y = told_is w'.new_store.told tells.new in (step x.0 y.0 x.1 y.1).0)
@@ -130,22 +137,22 @@ done_ends ops ReadOld to r e done h = absurd cc
 done_ends ops (WriteOld rows) to r e done h = subst (λ x. Absorbs ops (WriteOld rows) x (Ok batch.More) to) done.1 h
 done_ends ops BirthOld to r e done h = subst (λ x. Absorbs ops BirthOld x (Ok batch.More) to) done.1 h
 
-write_ends : (w w' : WorldState) (call : Call) (a' : Actor) → IsWorld w → ActorFits (Client (client.Batch call)) → AtWrite w (Client (client.Batch call)) → GoesOn call w w' a' → Tells w' → ⊥
-write_ends w w' call a' world fits at g tells =
+write_ends : (w w' : WorldState) (call : Call) (entry : Option NewEntry) (a' : Actor) → IsWorld w → ActorFits (Client (client.Batch call)) → AtWrite w (Client (client.Batch call)) → GoesOn call w w' entry a' → Tells w' → ⊥
+write_ends w w' call entry a' world fits at g tells =
     let x = told_is w'.old_store.told tells.old in
     let y = told_is w'.new_store.told tells.new in
     let k = before w w' g.ask.side g.ask.ask g.answer x.0 y.0 x.1 y.1 g.one.on in
     let r = at_pair w (IsReplayed w) k.a k.b k.old k.new world.replayed in
     let stands = at_pair w (λ p. StandsOn p call.batch call.place) k.a k.b k.old k.new at.1 in
     done_ends call.batch call.place g.to.place g.answer at.0
-    (write_done call.batch call.place g.ask g.answer (pair_of w k.a k.b) (pair_of w x.0 y.0) fits.batch fits.place r.sound r.at_use_old at.0 stands g.asks k.means) g.absorbs
+    (write_done call.batch call.place g.ask g.answer (pair_of w k.a k.b) (pair_of w x.0 y.0) fits.batch fits.place r.sound r.unmoved.at_use_old at.0 stands g.asks k.means) g.absorbs
 
-pub stands_on : (n : ℕ) (w w' : WorldState) (caller : ℕ) (a a' : Actor) → IsWorld w → StandsAt n w a → Turns w caller a (Ok More) w' a' → Tells w' → StandsAt (suc n) w' a'
-stands_on zero w w' caller (Client (client.Batch call)) a' world at t tells = read_then w w' call a' world t.fits at t.same (goes_on w w' call a' t.moves) tells
-stands_on zero w w' caller (Client client.Ended) a' world at t tells = absurd at
-stands_on (suc zero) w w' caller (Client (client.Batch call)) a' world at t tells = write_ends w w' call a' world t.fits at (goes_on w w' call a' t.moves) tells
-stands_on (suc zero) w w' caller (Client client.Ended) a' world at t tells = absurd at
-stands_on (suc (suc n)) w w' caller a a' world at t tells = absurd at
+pub stands_on : (n : ℕ) (w w' : WorldState) (caller : ℕ) (a a' : Actor) (entry : Option NewEntry) → IsWorld w → StandsAt n w a → Turns w caller a (Ok More) entry w' a' → Tells w' → StandsAt (suc n) w' a'
+stands_on zero w w' caller (Client (client.Batch call)) a' entry world at t tells = read_then w w' call entry a' world t.fits at t.same (goes_on w w' call entry a' t.moves) tells
+stands_on zero w w' caller (Client client.Ended) a' entry world at t tells = absurd at
+stands_on (suc zero) w w' caller (Client (client.Batch call)) a' entry world at t tells = write_ends w w' call entry a' world t.fits at (goes_on w w' call entry a' t.moves) tells
+stands_on (suc zero) w w' caller (Client client.Ended) a' entry world at t tells = absurd at
+stands_on (suc (suc n)) w w' caller a a' entry world at t tells = absurd at
 
 stands_few : (n : ℕ) (w : WorldState) (a : Actor) → StandsAt n w a → n ≤ 1
 stands_few zero w a h = omega arith
@@ -154,43 +161,47 @@ stands_few (suc (suc n)) w a h = absurd h
 
 -- ---- the turns of a call so far
 
--- turns that went on: with turns that end the call from here, they are turns that end it from its beginning
+-- turns that went on, with these marks: with turns that end the call from here, they are turns that end it from its beginning
 pub record Went (w : WorldState) (caller : ℕ) (a : Actor) (m : WorldState) (b : Actor) : Type 0 where
-  pub more : ℕ
-  pub rest : (k : ℕ) (r : Result Answer TurnFault) (w' : WorldState) → Finishes k m caller b r w' → Finishes (more + k) w caller a r w'
-  pub stands : IsAtBegin a → Tells m → StandsAt more m b
+  pub marks : List Mark
+  pub rest : (next : Mark) (more : List Mark) (r : Result Answer TurnFault) (w' : WorldState) → Finishes (next ∷ more) m caller b r w' → Finishes (marks ++ next ∷ more) w caller a r w'
+  pub stands : IsAtBegin a → Tells m → StandsAt (length marks) m b
 
 pub went_none : (w : WorldState) (caller : ℕ) (a : Actor) → Went w caller a w a
-went_none w caller a = record {
-  more = 0;
-  rest = λ k r w' f. subst (λ n. Finishes n w caller a r w') (let e : k ≡ 0 + k = omega arith in e) f;
-  stands = λ begin tells. begin;
+went_none w caller a = record { marks = []; rest = λ next more r w' f. f; stands = λ begin tells. begin }
+
+abbrev mark_of : WorldState → Option NewEntry → Mark
+mark_of w entry = record { place = end_of w; entry = entry }
+
+pub went_more : (w m m' : WorldState) (caller : ℕ) (a b b' : Actor) (entry : Option NewEntry) → IsWorld m → Went w caller a m b → Turns m caller b (Ok More) entry m' b' → Went w caller a m' b'
+went_more w m m' caller a b b' entry world g t = record {
+  marks = g.marks ++ mark_of m entry ∷ [];
+  rest = λ next more r w' f. subst (λ ms. Finishes ms w caller a r w') (sym (append_assoc g.marks (mark_of m entry ∷ []) (next ∷ more))) (g.rest (mark_of m entry) (next ∷ more) r w' (m', b', record { place = refl; turn = t }, f));
+  stands = λ begin tells. subst (λ n. StandsAt n m' b') (sym (length-append g.marks (mark_of m entry ∷ []) ∙ let e : length g.marks + 1 ≡ suc (length g.marks) = omega arith in e))
+      (stands_on (length g.marks) m m' caller b b' entry world (g.stands begin (t.tells tells)) t tells);
 }
 
-pub went_more : (w m m' : WorldState) (caller : ℕ) (a b b' : Actor) → IsWorld m → Went w caller a m b → Turns m caller b (Ok More) m' b' → Went w caller a m' b'
-went_more w m m' caller a b b' world g t = record {
-  more = suc g.more;
-  rest = λ k r w' f. subst (λ n. Finishes n w caller a r w') (let e : g.more + suc k ≡ suc g.more + k = omega arith in e) (g.rest (suc k) r w' (m', b', t, f));
-  stands = λ begin tells. stands_on g.more m m' caller b b' world (g.stands begin (t.tells tells)) t tells;
+at_most : (a : Actor) → IsAtBegin a → (n : ℕ) → n ≤ 1 → n + 1 ≤ turns_at_most a
+at_most (Client (client.Batch call)) begin n few = omega (arith, few)
+at_most (Client client.Ended) begin n few = absurd begin
+
+pub went_ends : (w m w' : WorldState) (caller : ℕ) (a b b' : Actor) (r : Result Answer TurnFault) (entry : Option NewEntry) → Went w caller a m b → Turns m caller b (last_turn r) entry w' b' → EndsCall w caller a r w'
+went_ends w m w' caller a b b' r entry g t = record {
+  marks = g.marks ++ mark_of m entry ∷ [];
+  turns = g.rest (mark_of m entry) [] r w' (b', record { place = refl; turn = t });
+  few = λ begin tells. subst (λ n. n ≤ turns_at_most a) (sym (length-append g.marks (mark_of m entry ∷ []))) (at_most a begin (length g.marks) (stands_few (length g.marks) m b (g.stands begin (t.tells tells))));
 }
 
-pub went_ends : (w m w' : WorldState) (caller : ℕ) (a b b' : Actor) (r : Result Answer TurnFault) → Went w caller a m b → Turns m caller b (last_turn r) w' b' → EndsCall w caller a r w'
-went_ends w m w' caller a b b' r g t = record {
-  more = g.more;
-  turns = subst (λ n. Finishes n w caller a r w') (let e : g.more + 0 ≡ g.more = omega arith in e) (g.rest 0 r w' (b', t));
-  few = λ begin tells. stands_few g.more m b (g.stands begin (t.tells tells));
-}
-
--- ---- what a whole call does
+-- ---- what the whole call of a batch does
 
 rose_from : (w m w' : ℕ) → w ≤ m → Rose m w' → Rose w w'
 rose_from w m w' le rose = omega (arith, le, rose)
 
-calls_grow : (c c' : Stage) (a a' : Actor) (r : Result Progress TurnFault) → Moves c a r c' a' → c.calls ≤ c'.calls
-calls_grow c c' a a' (Ok progress) m = m.3.grew
-calls_grow c c' a a' (Err StoreFault) m = m.2.grew
-calls_grow c c' a a' (Err HistoryFull) m = (let e = m.0.calls in omega (arith, e))
-calls_grow c c' a a' (Err NoMemory) m = elim m.0 as (λ _. c.calls ≤ c'.calls) [ inl none ↦ (let e = none.calls in omega (arith, e)) | inr vain ↦ vain.call.grew ]
+calls_grow : (c c' : Stage) (a a' : Actor) (r : Result Progress TurnFault) (entry : Option NewEntry) → Moves c a r entry c' a' → c.calls ≤ c'.calls
+calls_grow c c' a a' (Ok progress) entry m = m.3.grew
+calls_grow c c' a a' (Err StoreFault) entry m = m.2.grew
+calls_grow c c' a a' (Err HistoryFull) entry m = (let e = m.0.calls in omega (arith, e))
+calls_grow c c' a a' (Err NoMemory) entry m = elim m.0 as (λ _. c.calls ≤ c'.calls) [ inl none ↦ (let e = none.calls in omega (arith, e)) | inr vain ↦ vain.call.grew ]
 
 full_last : (r : Result Answer TurnFault) → is_full (last_turn r) ≡ is_full r
 full_last (Ok answer) = refl
@@ -198,30 +209,53 @@ full_last (Err StoreFault) = refl
 full_last (Err HistoryFull) = refl
 full_last (Err NoMemory) = refl
 
-last_cause : (w w' : WorldState) (caller : ℕ) (a a' : Actor) (r : Result Answer TurnFault) → Turns w caller a (last_turn r) w' a' → r ≡ Err StoreFault → EitherRose w w'
-last_cause w w' caller a a' r t is =
-    let m = (subst (λ x. Turns w caller a (last_turn x) w' a') is t).moves in
+last_cause : (w w' : WorldState) (caller : ℕ) (a a' : Actor) (r : Result Answer TurnFault) (entry : Option NewEntry) → Turns w caller a (last_turn r) entry w' a' → r ≡ Err StoreFault → EitherRose w w'
+last_cause w w' caller a a' r entry t is =
+    let m = (subst (λ x. Turns w caller a (last_turn x) entry w' a') is t).moves in
     failed_rose w w' m.0.side m.0.ask m.2.on
 
+-- the last turn's entry has the batch and its answer
+ended_entry : (ops : List Op) (to : Call) (said : BatchProgress) (answer : Answer) → to.batch ≡ ops → Done answer ≡ (batch_move to said).progress → (batch_move to said).entry ≡ batch_entry ops (Ok answer)
+ended_entry ops to batch.More answer same is = absurd cc
+ended_entry ops to (batch.Written tags) (Written given) same is = (let e : given ≡ tags = cc in ap (λ t. batch_entry to.batch (Ok (Written t))) (sym e) ∙ ap (λ o. batch_entry o (Ok (Written given))) same)
+ended_entry ops to (batch.Written tags) (Refused refusal) same is = absurd cc
+ended_entry ops to (batch.Refused refusal) (Refused told) same is = (let e : told ≡ refusal = cc in ap (λ t. batch_entry to.batch (Ok (Refused t))) (sym e) ∙ ap (λ o. batch_entry o (Ok (Refused told))) same)
+ended_entry ops to (batch.Refused refusal) (Written given) same is = absurd cc
+
+last_entry : (c c' : Stage) (call : Call) (a' : Actor) (r : Result Answer TurnFault) (entry : Option NewEntry) → Moves c (Client (client.Batch call)) (last_turn r) entry c' a' → entry ≡ batch_entry call.batch r
+last_entry c c' call a' (Ok answer) entry m =
+    let b : BatchMoves call m.1 (record { progress = Done answer; entry = entry; after = a' }) = m.4 in
+    ap (λ (x : Move). x.entry) b.is ∙ ended_entry call.batch b.to b.said answer b.same (ap (λ (x : Move). x.progress) b.is)
+last_entry c c' call a' (Err StoreFault) entry m = m.3
+last_entry c c' call a' (Err HistoryFull) entry m = m.1
+last_entry c c' call a' (Err NoMemory) entry m = m.1
+
+mark_is : (m : Mark) (place : ℕ) (entry : Option NewEntry) → m.place ≡ place → m.entry ≡ entry → m ≡ record { place = place; entry = entry }
+mark_is m place entry at is i = record { place = at i; entry = is i }
+
 -- the last turn alone
-last_answers : (w w' : WorldState) (caller : ℕ) (call : Call) (a' : Actor) (r : Result Answer TurnFault) → Turns w caller (Client (client.Batch call)) (last_turn r) w' a' → Answers w caller call.batch r w'
-last_answers w w' caller call a' r t =
-    let k = moved (stage_of w) (stage_of w') (Client (client.Batch call)) a' (last_turn r) t.moves in
+last_answers : (m : Mark) (w w' : WorldState) (caller : ℕ) (call : Call) (a' : Actor) (r : Result Answer TurnFault) → MarkedTurn m w caller (Client (client.Batch call)) (last_turn r) w' a' → BatchAnswers w caller call.batch (m ∷ []) r w'
+last_answers m w w' caller call a' r marked =
+    let t = marked.turn in
+    let k = moved (stage_of w) (stage_of w') (Client (client.Batch call)) a' (last_turn r) m.entry t.moves in
+    let is = last_entry (stage_of w) (stage_of w') call a' r m.entry t.moves in
     record {
       same = t.same;
+      retired = t.retired;
       tells = t.tells;
       full = sym (full_last r) ∙ t.full;
-      entries = t.entries;
-      replies = t.replies;
-      cause = last_cause w w' caller (Client (client.Batch call)) a' r t;
+      marks_are = mark_is m (end_of w) (batch_entry call.batch r) marked.place is;
+      entries = t.adds.entries ∙ ap (entries_with w.history.entries w.numbers caller) is;
+      replies = subst (λ e. RepliesAt w e w') is t.replies;
+      cause = last_cause w w' caller (Client (client.Batch call)) a' r m.entry t;
       old_faults = k.old_faults;
       new_faults = k.new_faults;
-      calls = calls_grow (stage_of w) (stage_of w') (Client (client.Batch call)) a' (last_turn r) t.moves;
+      calls = calls_grow (stage_of w) (stage_of w') (Client (client.Batch call)) a' (last_turn r) m.entry t.moves;
     }
 
-replies_from : (w m w' : WorldState) (ops : List Op) (r : Result Answer TurnFault) → table_now m ≡ table_now w → RepliesAt m ops (last_turn r) w' → RepliesAt w ops (last_turn r) w'
-replies_from w m w' ops (Ok answer) table h = subst (λ t. ForPair w' (λ p. Replies (answered ops answer) t (reply_of answer))) table h
-replies_from w m w' ops (Err fault) table h = tt
+replies_from : (w m w' : WorldState) (entry : Option NewEntry) → table_now m ≡ table_now w → RepliesAt m entry w' → RepliesAt w entry w'
+replies_from w m w' None table h = tt
+replies_from w m w' (Some e) table h = subst (λ t. ForPair w' (λ p. Replies e.what t e.reply)) table h
 
 then_same : (w m w' : WorldState) → IsSameWorld w m → IsSameWorld m w' → IsSameWorld w w'
 then_same w m w' s t = record {
@@ -231,37 +265,44 @@ then_same w m w' s t = record {
   first = t.first ∙ s.first;
   limit = t.limit ∙ s.limit;
   generation = t.generation ∙ s.generation;
-  retired = t.retired ∙ s.retired;
-  old_faults = t.old_faults ∙ s.old_faults;
-  new_faults = t.new_faults ∙ s.new_faults;
+  opened_faults = t.opened_faults ∙ s.opened_faults;
 }
 
+-- entries with one more, where the caller's number and the entries were the same before
+entries_from : (entry : Option NewEntry) (caller : ℕ) (xs ys : List Entry) (k l : List (ℕ × ℕ)) → xs ≡ ys → next_number k caller ≡ next_number l caller → entries_with xs k caller entry ≡ entries_with ys l caller entry
+entries_from None caller xs ys k l same number = same
+entries_from (Some e) caller xs ys k l same number = ap (λ es. es ++ entry_of k caller e.what ∷ []) same ∙ ap (λ n. ys ++ (record { caller = caller; number = n; what = e.what }) ∷ []) number
+
 -- a turn that goes on, and then the rest
-then_answers : (w m w' : WorldState) (caller : ℕ) (a b : Actor) (ops : List Op) (r : Result Answer TurnFault) → Turns w caller a (Ok More) m b → Answers m caller ops r w' → Answers w caller ops r w'
-then_answers w m w' caller a b ops r t rest =
-    let k = moved (stage_of w) (stage_of m) a b (Ok More) t.moves in
+then_answers : (m next : Mark) (marks : List Mark) (w v w' : WorldState) (caller : ℕ) (a b : Actor) (ops : List Op) (r : Result Answer TurnFault) → m.entry ≡ None → retired_by a (Ok More) w.retired ≡ w.retired → MarkedTurn m w caller a (Ok More) v b
+    → BatchAnswers v caller ops (next ∷ marks) r w' → BatchAnswers w caller ops (m ∷ next ∷ marks) r w'
+then_answers m next marks w v w' caller a b ops r none retired marked rest =
+    let t = marked.turn in
+    let k = moved (stage_of w) (stage_of v) a b (Ok More) m.entry t.moves in
+    let adds = subst (λ e. Adds (log_of w) caller e (log_of v)) none t.adds in
+    let ends : end_of v ≡ end_of w = ap (λ n. n + length v.history.entries) t.same.first ∙ ap (λ es. w.history.first + length es) adds.entries in
     record {
-      same = then_same w m w' t.same rest.same;
+      same = then_same w v w' t.same rest.same;
+      retired = rest.retired ∙ t.retired ∙ retired;
       tells = λ tells. t.tells (rest.tells tells);
-      full = rest.full ∙ ap (λ es. not (nat_lt (length es) m.history.limit && nat_le (total_weight es + batch_weight ops) (2 ^ 30))) t.entries ∙ ap (λ n. not (nat_lt (length w.history.entries) n && nat_le (total_weight w.history.entries + batch_weight ops) (2 ^ 30))) t.same.limit;
-      entries = rest.entries ∙ ap (λ es. entries_with es caller (what_of ops (last_turn r))) t.entries;
-      replies = replies_from w m w' ops r (ap table_at_end (window_stays w m t.same t.entries)) rest.replies;
+      full = rest.full ∙ ap (λ es. not (nat_lt (length es) v.history.limit && nat_le (total_weight es + batch_weight ops) (2 ^ 30))) adds.entries ∙ ap (λ n. not (nat_lt (length w.history.entries) n && nat_le (total_weight w.history.entries + batch_weight ops) (2 ^ 30))) t.same.limit;
+      marks_are = (mark_is m (end_of w) None marked.place none, subst (λ n. AreMarksAt n (batch_entry ops r) (next ∷ marks)) ends rest.marks_are);
+      entries = rest.entries ∙ entries_from (batch_entry ops r) caller v.history.entries w.history.entries v.numbers w.numbers adds.entries (adds.numbers caller);
+      replies = replies_from w v w' (batch_entry ops r) (ap table_at_end (window_stays w v t.same adds.entries)) rest.replies;
       cause = λ is. elim (rest.cause is) as (λ _. EitherRose w w') [
-        | inl rose ↦ inl (rose_from w.old_store.faults m.old_store.faults w'.old_store.faults k.old_faults rose)
-        | inr rose ↦ inr (rose_from w.new_store.faults m.new_store.faults w'.new_store.faults k.new_faults rose)
+        | inl rose ↦ inl (rose_from w.old_store.faults v.old_store.faults w'.old_store.faults k.old_faults rose)
+        | inr rose ↦ inr (rose_from w.new_store.faults v.new_store.faults w'.new_store.faults k.new_faults rose)
       ];
       old_faults = (let x = k.old_faults in let y = rest.old_faults in omega (arith, x, y));
       new_faults = (let x = k.new_faults in let y = rest.new_faults in omega (arith, x, y));
-      calls = (let x = calls_grow (stage_of w) (stage_of m) a b (Ok More) t.moves in let y = rest.calls in omega (arith, x, y));
+      calls = (let x = calls_grow (stage_of w) (stage_of v) a b (Ok More) m.entry t.moves in let y = rest.calls in omega (arith, x, y));
     }
 
-finish_answers : (n : ℕ) (w w' : WorldState) (caller : ℕ) (call : Call) (r : Result Answer TurnFault) → Finishes n w caller (Client (client.Batch call)) r w' → Answers w caller call.batch r w'
-finish_answers zero w w' caller call r f = last_answers w w' caller call f.0 r f.1
-finish_answers (suc n) w w' caller call r f =
-    let g = goes_on w f.0 call f.1 f.2.moves in
-    let rest = finish_answers n f.0 w' caller g.to r (subst (λ b. Finishes n f.0 caller b r w') g.after f.3) in
-    then_answers w f.0 w' caller (Client (client.Batch call)) f.1 call.batch r f.2 (subst (λ ops. Answers f.0 caller ops r w') g.same_ops rest)
-
-pub ends_answers : (w w' : WorldState) (caller : ℕ) (a : Actor) (r : Result Answer TurnFault) → CanStep a → EndsCall w caller a r w' → Answers w caller (asked_by a) r w'
-ends_answers w w' caller (Client (client.Batch call)) r can ends = finish_answers ends.more w w' caller call r ends.turns
-ends_answers w w' caller (Client client.Ended) r can ends = absurd can
+-- turns that end the call of a batch answer it
+pub batch_answers : (marks : List Mark) (w w' : WorldState) (caller : ℕ) (call : Call) (r : Result Answer TurnFault) → Finishes marks w caller (Client (client.Batch call)) r w' → BatchAnswers w caller call.batch marks r w'
+batch_answers [] w w' caller call r f = absurd f
+batch_answers (m ∷ []) w w' caller call r f = last_answers m w w' caller call f.0 r f.1
+batch_answers (m ∷ next ∷ marks) w w' caller call r f =
+    let g = goes_on w f.0 call m.entry f.1 f.2.turn.moves in
+    let rest = batch_answers (next ∷ marks) f.0 w' caller g.to r (subst (λ b. Finishes (next ∷ marks) f.0 caller b r w') g.after f.3) in
+    then_answers m next marks w f.0 w' caller (Client (client.Batch call)) f.1 call.batch r g.none refl f.2 (subst (λ ops. BatchAnswers f.0 caller ops (next ∷ marks) r w') g.same_ops rest)

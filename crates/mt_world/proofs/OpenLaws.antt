@@ -1,5 +1,5 @@
 -- Two stores without rows are a world without history.
-use Rattle.std.proofs.Common.{◌≡◌, ◌≢◌, ◌∙◌, ℕ, Bool, true, false, cond, List, [], ◌∷◌, refl, sym, ap, subst, arith, inl, bytes_eq, ◌||◌, All, IsTrue, Option, Some, None}
+use Rattle.std.proofs.Common.{◌≡◌, ◌≢◌, ◌∙◌, ℕ, ◌+◌, ◌≤◌, Bool, true, false, cond, List, [], ◌∷◌, refl, sym, ap, subst, arith, inl, bytes_eq, ◌||◌, All, IsTrue, Option, Some, None}
 use Rattle.std.specs.Prelude.{option_map, is_none, not, ◌&&◌, Ok}
 use Rattle.mt_chain.specs.declared.query.PkFrom.{PkFrom}
 use Rattle.mt_chain.specs.declared.query.PkFrom.TheVariants as start
@@ -8,17 +8,16 @@ use Rattle.mt_chain.specs.Rows.{Rows, has_partition, is_past}
 use Rattle.mt_chain.specs.StoreCall.{Contents, IsNext}
 use Rattle.mt_chain.specs.Store.{Store, Onward, Same, Counted, NextShows}
 use Rattle.mt_chain.specs.Rows.{are_rising}
-use Rattle.mt_chain.specs.Table.{table_of}
+use Rattle.mt_chain.specs.Table.{table_of, rows_of}
 use Rattle.mt_chain.proofs.KeyLaws.{text_same}
 use Rattle.mt_history.specs.Window.{replay}
-use Rattle.mt_history.specs.Replies.{rows_of}
 use Rattle.mt_history.specs.Legal.{all_tags}
 use Rattle.mt_history.proofs.WindowLaws.{nothing_is_legal}
 use Rattle.mt_meta.specs.Markers.{marker_key}
 use Rattle.mt_meta.specs.Logical.{Pair}
 use Rattle.mt_meta.specs.Sound.{IsSound}
-use Rattle.mt_meta.specs.Steps.{as_row}
-use Rattle.mt_world.specs.Worlds.{WorldState, IsReplayed, IsGiven, IsWorld, window_of, pair_of, faults_in}
+use Rattle.mt_meta.specs.Steps.{as_row, IsGiven}
+use Rattle.mt_world.specs.Worlds.{WorldState, IsReplayed, IsWorld, window_of, pair_of, faults_in, next_number, number_due}
 use Rattle.mt_world.specs.Opening.{IsFresh, Stays, shows_nothing, Looks}
 use Rattle.mt_world.proofs.PairLaws.{for_pair, told_before, same_onward}
 use Rattle.mt_world.proofs.EntryLaws.{no_tags}
@@ -67,8 +66,8 @@ same_after next before None h = tt
 same_after next None (Some a) h = absurd h
 same_after next (Some b) (Some a) h = h.0
 
-pub looked : (s t : Store) (begin : PkFrom) (next : Next) (nothing : Bool) → begin ≡ start.From [] → Counted s t → NextShows begin (Ok next) s t → nothing ≡ shows_nothing next → Looks s (Ok nothing) t
-looked s t begin next nothing is counted shows flag = go nothing flag where
+pub looked : (s t : Store) (begin : PkFrom) (next : Next) (nothing : Bool) → begin ≡ start.From [] → Counted s t → t.faults ≡ s.faults → NextShows begin (Ok next) s t → nothing ≡ shows_nothing next → Looks s (Ok nothing) t
+looked s t begin next nothing is counted same shows flag = go nothing flag where
   h : NextShows (start.From []) (Ok next) s t
   h = subst (λ at. NextShows at (Ok next) s t) is shows
 
@@ -76,8 +75,8 @@ looked s t begin next nothing is counted shows flag = go nothing flag where
   stays = record { number = counted.number; calls = counted.grew; faults = counted.faults; contents = same_after next s.told t.told h.2 }
 
   go : (b : Bool) → b ≡ shows_nothing next → Looks s (Ok b) t
-  go true e = (stays, shown_fresh next (sym e) s.told t.told h.2)
-  go false e = (stays, shown_stale next (sym e) s.told t.told h.2)
+  go true e = (stays, same, shown_fresh next (sym e) s.told t.told h.2)
+  go false e = (stays, same, shown_stale next (sym e) s.told t.told h.2)
 
 -- ---- the pair
 
@@ -112,28 +111,30 @@ no_row false = refl
 empty_replayed : (w : WorldState) (m n : ℕ) → w.base ≡ [] → w.history.entries ≡ [] → w.retired ≡ false → IsReplayed w (empty_pair w.old_store.number w.new_store.number m n)
 empty_replayed w m n base entries retired = record {
   sound = empty_sound w.old_store.number w.new_store.number m n;
-  at_use_old = record { unsealed = refl; markers = λ pk. inl refl };
-  nothing_new = refl;
   legal = nothing_is_legal (window_of w) entries;
   table = λ key. no_row (bytes_eq key.rk marker_key) ∙ sym (ap (λ es. replay (table_of (rows_of w.base)) es key) entries ∙ ap (λ rows. table_of (rows_of rows) key) base);
   given_before = λ tag has. absurd (let x : None ≡ Some has.1 = sym (ap (λ rows. table_of (rows_of rows) has.0) base) ∙ has.2 in cc);
   given_since = subst (λ es. All (IsGiven (empty_pair w.old_store.number w.new_store.number m n)) (all_tags es)) (sym entries) (no_tags (IsGiven (empty_pair w.old_store.number w.new_store.number m n)));
   retired = λ r. absurd (let x : true ≡ false = sym r ∙ retired in cc);
+  unmoved = record { at_use_old = record { unsealed = refl; markers = λ pk. inl refl }; nothing_new = λ pk rk. refl };
 }
 
 fresh_told : (s : Store) (before : Option Contents) (c : Contents) → s.told ≡ Some c → Onward (λ b after. IsFresh after) before s.told → IsFresh c
 fresh_told s before c is h = (told_before (λ b after. IsFresh after) before s.told c is h).2
 
-pub empty_world : (w : WorldState) (old new : Option Contents) → (w.old_store.number ≡ 0) × (w.new_store.number ≡ 1) → w.base ≡ [] → w.history.first ≡ 0 → w.history.entries ≡ [] → w.retired ≡ false
-    → w.old_faults ≡ w.old_store.faults → w.new_faults ≡ w.new_store.faults
+pub empty_world : (w : WorldState) (old new : Option Contents) → (w.old_store.number ≡ 0) × (w.new_store.number ≡ 1) → w.base ≡ [] → w.history.first ≡ 0 → w.history.entries ≡ [] → w.history.limit ≤ 1048576
+    → w.numbers ≡ [] → w.fault_entries ≡ 0 → w.generation ≡ 1 → w.retired ≡ false → w.opened_faults ≡ w.old_store.faults + w.new_store.faults
     → Onward (λ b after. IsFresh after) old w.old_store.told → Onward (λ b after. IsFresh after) new w.new_store.told → IsWorld w
-empty_world w old new numbers base first entries retired old_faults new_faults old_fresh new_fresh = record {
-  numbers = numbers;
+empty_world w old new numbers base first entries bounded none no_faults generation retired faults old_fresh new_fresh = record {
+  numbers = ((let a = numbers.0 in omega (arith, a, generation)), numbers.1 ∙ sym generation);
   whole = first;
+  bounded = bounded;
   rising = subst (λ rows. IsTrue (are_rising (rows_of rows))) (sym base) refl;
   replayed = for_pair w (IsReplayed w) (λ a b ea eb.
       let x = is_empty a (fresh_told w.old_store old a ea old_fresh) in
       let y = is_empty b (fresh_told w.new_store new b eb new_fresh) in
       subst (λ c. IsReplayed w (pair_of w c b)) (sym x) (subst (λ c. IsReplayed w (pair_of w (record { rows = []; sealed = false; counter = a.counter }) c)) (sym y) (empty_replayed w a.counter b.counter base entries retired)));
-  faults = inl (let none : faults_in w.history.entries ≡ 0 = ap faults_in entries in omega (arith, old_faults, new_faults, none));
+  due = λ whole caller. ap (λ ns. next_number ns caller) none ∙ sym (ap (λ es. number_due es caller) entries);
+  fault_entries = λ whole. no_faults ∙ sym (ap faults_in entries);
+  faults = inl (omega (arith, faults, no_faults));
 }

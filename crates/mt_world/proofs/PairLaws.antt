@@ -13,6 +13,7 @@ use Rattle.mt_chain.specs.Store.{Store, Rose, Onward, Same}
 use Rattle.mt_chain.specs.Asks.{Means}
 use Rattle.mt_meta.specs.Logical.{Pair}
 use Rattle.mt_meta.specs.Steps.{PairMeans}
+use Rattle.mt_meta.proofs.PairLaws.{for_pair as for_told, at_pair as at_told, map_pair as map_told}
 use Rattle.mt_world.specs.Worlds.{WorldState, pair_of, ForPair, Tells}
 use Rattle.mt_world.specs.Turns.{IsSameWorld, CallsOn}
 
@@ -39,17 +40,13 @@ some_from P (Some a) (Some b) h e = refl
 -- ---- both stores
 
 pub for_pair : (w : WorldState) (P : Pair → Type 0) → ((a b : Contents) → w.old_store.told ≡ Some a → w.new_store.told ≡ Some b → P (pair_of w a b)) → ForPair w P
-for_pair w P h = go w.old_store.told w.new_store.told refl refl where
-  go : (x y : Option Contents) → w.old_store.told ≡ x → w.new_store.told ≡ y → IfSome x (λ a. IfSome y (λ b. P (pair_of w a b)))
-  go None y ex ey = tt
-  go (Some a) None ex ey = tt
-  go (Some a) (Some b) ex ey = h a b ex ey
+for_pair w P h = for_told w.old_store.number w.new_store.number w.old_store.told w.new_store.told P h
 
 pub at_pair : (w : WorldState) (P : Pair → Type 0) (a b : Contents) → w.old_store.told ≡ Some a → w.new_store.told ≡ Some b → ForPair w P → P (pair_of w a b)
-at_pair w P a b ea eb h = subst (λ y. IfSome y (λ b. P (pair_of w a b))) eb (subst (λ x. IfSome x (λ a. IfSome w.new_store.told (λ b. P (pair_of w a b)))) ea h)
+at_pair w P a b ea eb h = at_told w.old_store.number w.new_store.number w.old_store.told w.new_store.told P a b ea eb h
 
 pub map_pair : (w : WorldState) (P Q : Pair → Type 0) → ((p : Pair) → P p → Q p) → ForPair w P → ForPair w Q
-map_pair w P Q f h = for_pair w Q (λ a b ea eb. f (pair_of w a b) (at_pair w P a b ea eb h))
+map_pair w P Q f h = map_told w.old_store.number w.new_store.number w.old_store.told w.new_store.told P Q f h
 
 -- the same stores make the same pair
 pub same_pair : (w w' : WorldState) → IsSameWorld w w' → (a b : Contents) → pair_of w' a b ≡ pair_of w a b
@@ -61,13 +58,6 @@ same_pair w w' same a b i = record { old_number = same.old_number i; new_number 
 pub record IsQuiet (w w' : WorldState) : Type 0 where
   pub old : Onward Same w.old_store.told w'.old_store.told
   pub new : Onward Same w.new_store.told w'.new_store.told
-
-pub carried : (w w' : WorldState) → IsSameWorld w w' → IsQuiet w w' → (P : Pair → Type 0) → ForPair w P → ForPair w' P
-carried w w' same quiet P h = for_pair w' P (λ a b ea eb.
-    let x = told_before Same w.old_store.told w'.old_store.told a ea quiet.old in
-    let y = told_before Same w.new_store.told w'.new_store.told b eb quiet.new in
-    let before : P (pair_of w a b) = subst (λ c. P (pair_of w c b)) (sym x.2) (subst (λ c. P (pair_of w x.0 c)) (sym y.2) (at_pair w P x.0 y.0 x.1 y.1 h)) in
-    subst P (sym (same_pair w w' same a b)) before)
 
 pub quiet_tells : (w w' : WorldState) → IsQuiet w w' → Tells w' → Tells w
 quiet_tells w w' quiet tells = record {
@@ -107,13 +97,13 @@ called_tells w w' New ask r h tells = record {
 
 -- a call that failed leaves what the stores hold
 pub failed_quiet : (w w' : WorldState) (side : Side) (ask : Ask) → CallsOn side w.old_store w.new_store ask (Err call_fault.Failed) w'.old_store w'.new_store → IsQuiet w w'
-failed_quiet w w' Old ask h = record { old = h.0.shows.1; new = stays_same w.new_store w'.new_store h.1 }
-failed_quiet w w' New ask h = record { old = stays_same w.old_store w'.old_store h.1; new = h.0.shows.1 }
+failed_quiet w w' Old ask h = record { old = h.0.shows; new = stays_same w.new_store w'.new_store h.1 }
+failed_quiet w w' New ask h = record { old = stays_same w.old_store w'.old_store h.1; new = h.0.shows }
 
 pub failed_rose : (w w' : WorldState) (side : Side) (ask : Ask) → CallsOn side w.old_store w.new_store ask (Err call_fault.Failed) w'.old_store w'.new_store
     → Rose w.old_store.faults w'.old_store.faults ⊎ Rose w.new_store.faults w'.new_store.faults
-failed_rose w w' Old ask h = inl h.0.shows.0
-failed_rose w w' New ask h = inr h.0.shows.0
+failed_rose w w' Old ask h = inl h.0.faults
+failed_rose w w' New ask h = inr h.0.faults
 
 -- what calls keep of both stores
 pub record IsCalled (s s' t t' : Store) : Type 0 where

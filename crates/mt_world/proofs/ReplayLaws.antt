@@ -1,13 +1,17 @@
 -- Entries are replayed one after the other.
-use Rattle.std.proofs.Common.{◌≡◌, ◌∙◌, ℕ, ◌+◌, ◌<◌, List, [], ◌∷◌, ◌++◌, length, take, get_or, refl, sym, ap, subst, append_assoc, IsTrue}
+use Rattle.std.proofs.Common.{◌≡◌, ◌∙◌, ℕ, ◌+◌, ◌<◌, List, [], ◌∷◌, ◌++◌, length, take, get_or, nat_lt, false, ◌-◌, Some, None, if◌then◌else◌, arith, refl, sym, ap, subst, append_assoc, IsTrue}
+use Rattle.std.specs.List.{slice_get}
+use Rattle.std.proofs.lemmas.Bool.Decides.{nat_tests}
 use Rattle.std.proofs.lemmas.List.{take_more}
+use Rattle.std.proofs.lemmas.Option.{slice_get_within, get_or_from_slice_get}
+use Rattle.mt_history.specs.Kept.{Kept, entry_at}
 use Rattle.mt_chain.specs.Rows.{Rows, are_rising}
 use Rattle.mt_chain.specs.Table.{Table, IsSameTable, table_of}
 use Rattle.mt_history.specs.declared.entry.What.{What}
 use Rattle.mt_history.specs.declared.entry.What.TheVariants as what
 use Rattle.mt_history.specs.declared.entry.Entry.{Entry}
 use Rattle.mt_history.specs.Window.{replay, after_entry, begun}
-use Rattle.mt_history.specs.Replies.{rows_of}
+use Rattle.mt_chain.specs.Table.{rows_of}
 use Rattle.mt_history.specs.Legal.{IsLegal, IsTrueAtEnd}
 use Rattle.mt_history.proofs.WindowLaws.{replays_join}
 use Rattle.mt_world.specs.Worlds.{WorldState, IsReplayed, IsWorld, window_of, table_now}
@@ -47,6 +51,17 @@ replay_one base xs e rows after h one = record { rising = one.rising; table = ta
 
 pub replay_next : (base : Rows) (entries : List Entry) (i : ℕ) (d : Entry) (rows after : Rows) → i < length entries → IsReplay base (take i entries) rows → IsAfter rows (get_or entries i d).what after → IsReplay base (take (i + 1) entries) after
 replay_next base entries i d rows after l h one = subst (λ xs. IsReplay base xs after) (sym (take_more entries i d l)) (replay_one base (take i entries) (get_or entries i d) rows after h one)
+
+-- the entry at a place of a history that begins at its first
+entry_there : (h : Kept) (at : ℕ) → h.first ≡ 0 → entry_at h at ≡ slice_get h.entries at
+entry_there h at whole = ap (λ first. if nat_lt at first then None else slice_get h.entries (at - first)) whole ∙ from_first where
+  from_first : (if nat_lt at 0 then None else slice_get h.entries (at - 0)) ≡ slice_get h.entries at
+  from_first = (let lt : nat_lt at 0 ≡ false = grind (arith, nat_tests) in let same : at - 0 ≡ at = omega arith in rw (lt, same) refl)
+
+pub replay_at : (base : Rows) (h : Kept) (at : ℕ) (e : Entry) (rows after : Rows) → h.first ≡ 0 → entry_at h at ≡ Some e → IsReplay base (take at h.entries) rows → IsAfter rows e.what after → IsReplay base (take (at + 1) h.entries) after
+replay_at base h at e rows after whole there so_far one =
+    let found = sym (entry_there h at whole) ∙ there in
+    replay_next base h.entries at e rows after (slice_get_within h.entries at e found) so_far (subst (λ (x : Entry). IsAfter rows x.what after) (sym (get_or_from_slice_get h.entries at e e found)) one)
 
 -- ---- all entries
 

@@ -1,5 +1,5 @@
 -- What a batch call makes of a reply, and the entry of its answer.
-use Rattle.std.proofs.Common.{◌≡◌, ◌∙◌, ℕ, suc, ◌+◌, ◌-◌, ◌<◌, ◌^◌, Bool, true, false, ◌&&◌, List, [], ◌∷◌, ◌++◌, length, nat_lt, refl, sym, ap, subst, inr, arith, IsTrue, Option, Some, None, Result, Ok, Err}
+use Rattle.std.proofs.Common.{◌≡◌, ◌∙◌, ℕ, suc, ◌+◌, ◌-◌, ◌<◌, ◌^◌, Bool, true, false, ◌&&◌, List, [], ◌∷◌, ◌++◌, length, nat_lt, nat_eq, refl, sym, ap, subst, inl, inr, arith, IsTrue, Option, Some, None, Result, Ok, Err}
 use Rattle.std.specs.Prelude.{nat_le, min, not}
 use Rattle.std.proofs.lemmas.Bool.Decides.{nat_tests}
 use Rattle.mt_model.specs.declared.text.NoMemory.{NoMemory as NoMemoryOf}
@@ -18,16 +18,18 @@ use Rattle.mt_chain.specs.declared.ask.CallFault.{CallFault}
 use Rattle.mt_chain.specs.declared.ask.CallFault.TheVariants as call_fault
 use Rattle.mt_chain.specs.declared.query.RangeQuery.{RangeQuery}
 use Rattle.mt_chain.specs.StoreCall.{Contents}
-use Rattle.mt_chain.specs.Store.{Onward, Same}
+use Rattle.mt_chain.specs.Store.{Store, Onward, Same}
 use Rattle.mt_chain.specs.Asks.{Means}
 use Rattle.mt_rules.specs.Batches.{partition_of}
 use Rattle.mt_chain.specs.Table.{Table}
 use Rattle.mt_chain.specs.Batch.{batch_weight, tags_answered, refusal_of}
 use Rattle.mt_history.specs.declared.entry.What.TheVariants as what
+use Rattle.mt_history.specs.declared.entry.Entry.{Entry}
+use Rattle.mt_history.specs.declared.model.Reply.TheVariants as told
 use Rattle.mt_history.specs.Kept.{Kept, has_room}
 use Rattle.mt_history.specs.Weight.{total_weight}
 use Rattle.mt_meta.specs.Markers.{marker_key}
-use Rattle.mt_meta.specs.Facts.{row_in}
+use Rattle.mt_chain.specs.Rows.{row_in}
 use Rattle.mt_meta.specs.declared.marker.Phase.{Phase}
 use Rattle.mt_meta.specs.declared.marker.Phase.TheVariants.{UseOld, PreferOld, PreferNew}
 use Rattle.mt_batch_plan.specs.declared.place.Place.{Place}
@@ -40,11 +42,14 @@ use Rattle.mt_world.specs.declared.actor.ClientCall.TheVariants as client
 use Rattle.mt_world.specs.declared.actor.Actor.TheVariants.{Client}
 use Rattle.mt_world.specs.declared.actor.Answer.TheVariants.{Written, Refused}
 use Rattle.mt_world.specs.declared.actor.Progress.{Progress}
-use Rattle.mt_world.specs.declared.actor.Progress.TheVariants.{Done}
+use Rattle.mt_world.specs.declared.actor.Progress.TheVariants.{More, Done}
 use Rattle.mt_world.specs.declared.actor.TurnFault.{TurnFault}
 use Rattle.mt_world.specs.declared.actor.TurnFault.TheVariants.{StoreFault, HistoryFull, NoMemory}
-use Rattle.mt_world.specs.Worlds.{next_number}
-use Rattle.mt_world.specs.Turns.{Stage, CallsOn, OneCall, CalledInVain, Moves, Answered, GoesOn, TakesTurn, entry_of, entries_with, what_of, is_full, said_by, left_by, progress_of, batch_after}
+use Rattle.mt_world.specs.Worlds.{next_number, entry_of}
+use Rattle.mt_world.specs.Logs.{Log, Reserves, Adds, one_if, number_of_next, number_after, faults_with, faults_after, entries_with}
+use Rattle.mt_world.specs.Moves.{NewEntry, batch_move, fault_entry}
+use Rattle.mt_world.specs.Steps.{said_by, left_by, GoesOn, Answered}
+use Rattle.mt_world.specs.Turns.{Stage, CallsOn, OneCall, CalledInVain, Moves, TakesSomeTurn, is_full}
 use Rattle.mt_world.proofs.PairLaws.{stays_same}
 
 -- ---- tags come only of writes, one for each operation
@@ -112,49 +117,105 @@ room_for_fault h ops room = go (nat_lt (length h.entries) h.limit) (nat_le (tota
 
 -- ---- answers
 
-pub answered_written : (call to : Call) (r : StoreReply) (h h' : Kept) (caller : ℕ) (said : BatchProgress) (tags copy : List Tag) (ops : List Op) → to.batch ≡ call.batch
-    → Absorbs call.batch call.place r (Ok said) to.place → said ≡ batch.Written tags → ops ≡ to.batch → copy ≡ tags
-    → h' ≡ record h { entries = h.entries ++ (record { caller = caller; number = next_number h.entries caller; what = what.Batch ops copy }) ∷ []; spare = h.spare - 1 }
-    → Answered call r h caller (Ok (Done (Written tags), client.Ended)) h'
-answered_written call to r h h' caller said tags copy ops same moves is whole copied after = record {
-  goes = record { said = said; to = to; same = same; absorbs = moves; progress_is = ap progress_of (sym is); after_is = ap (λ s. Client (batch_after s to)) (sym is) };
-  entries = ap (λ k. k.entries) after ∙ ap (λ b. h.entries ++ entry_of h.entries caller (what.Batch b copy) ∷ []) (whole ∙ same) ∙ ap (λ t. h.entries ++ entry_of h.entries caller (what.Batch call.batch t) ∷ []) copied;
-  first = ap (λ k. k.first) after;
-  limit = ap (λ k. k.limit) after;
+-- the history has the entry of an answer more
+pub adds_one : (l l' : Log) (caller : ℕ) (e : NewEntry) → l'.history ≡ record l.history { entries = l.history.entries ++ entry_of l.numbers caller e.what ∷ []; spare = l.history.spare - 1 }
+    → ((other : ℕ) → next_number l'.numbers other ≡ number_of_next l.numbers caller other) → l'.fault_entries ≡ faults_with e.what l.fault_entries → Adds l caller (Some e) l'
+adds_one l l' caller e history numbers faults = record {
+  entries = ap (λ k. k.entries) history;
+  numbers = numbers;
+  fault_entries = faults;
+  first = ap (λ k. k.first) history;
+  limit = ap (λ k. k.limit) history;
 }
 
-pub answered_refused : (call to : Call) (r : StoreReply) (h h' : Kept) (caller : ℕ) (said : BatchProgress) (refusal : Refusal) (ops : List Op) → to.batch ≡ call.batch
-    → Absorbs call.batch call.place r (Ok said) to.place → said ≡ batch.Refused refusal → ops ≡ to.batch
-    → h' ≡ record h { entries = h.entries ++ (record { caller = caller; number = next_number h.entries caller; what = what.Refused ops }) ∷ []; spare = h.spare - 1 }
-    → Answered call r h caller (Ok (Done (Refused refusal), client.Ended)) h'
-answered_refused call to r h h' caller said refusal ops same moves is whole after = record {
-  goes = record { said = said; to = to; same = same; absorbs = moves; progress_is = ap progress_of (sym is); after_is = ap (λ s. Client (batch_after s to)) (sym is) };
-  entries = ap (λ k. k.entries) after ∙ ap (λ b. h.entries ++ entry_of h.entries caller (what.Refused b) ∷ []) (whole ∙ same);
-  first = ap (λ k. k.first) after;
-  limit = ap (λ k. k.limit) after;
+pub adds_none : (l l' : Log) (caller : ℕ) → Reserves l l' → Adds l caller None l'
+adds_none l l' caller h = record {
+  entries = ap (λ k. k.entries) h.history;
+  numbers = h.numbers;
+  fault_entries = h.fault_entries;
+  first = ap (λ k. k.first) h.history;
+  limit = ap (λ k. k.limit) h.history;
+}
+
+pub reserves_self : (l : Log) → Reserves l l
+reserves_self l = record { history = refl; numbers = λ other. refl; fault_entries = refl }
+
+-- memory was taken, and then an entry came, or none
+number_then : (entry : Option NewEntry) (caller : ℕ) (l k : List (ℕ × ℕ)) → ((other : ℕ) → next_number k other ≡ next_number l other) → (other : ℕ) → number_after entry caller k other ≡ number_after entry caller l other
+number_then None caller l k same other = same other
+number_then (Some e) caller l k same other = ap (λ n. n + one_if (nat_eq other caller)) (same other)
+
+entries_then : (entry : Option NewEntry) (caller : ℕ) (xs : List Entry) (l k : List (ℕ × ℕ)) → ((other : ℕ) → next_number k other ≡ next_number l other) → entries_with xs k caller entry ≡ entries_with xs l caller entry
+entries_then None caller xs l k same = refl
+entries_then (Some e) caller xs l k same = ap (λ n. xs ++ (record { caller = caller; number = n; what = e.what }) ∷ []) (same caller)
+
+pub adds_after : (l k l' : Log) (caller : ℕ) (entry : Option NewEntry) → Reserves l k → Adds k caller entry l' → Adds l caller entry l'
+adds_after l k l' caller entry r a = record {
+  entries = a.entries ∙ ap (λ h. entries_with h.entries k.numbers caller entry) r.history ∙ entries_then entry caller l.history.entries l.numbers k.numbers r.numbers;
+  numbers = λ other. a.numbers other ∙ number_then entry caller l.numbers k.numbers r.numbers other;
+  fault_entries = a.fault_entries ∙ ap (faults_after entry) r.fault_entries;
+  first = a.first ∙ ap (λ h. h.first) r.history;
+  limit = a.limit ∙ ap (λ h. h.limit) r.history;
+}
+
+-- the entry has the operations of the call
+pub answered_with : (call to : Call) (r : StoreReply) (l l' : Log) (caller : ℕ) (said : BatchProgress) (step : Progress × ClientCall) (e : NewEntry) → to.batch ≡ call.batch
+    → Absorbs call.batch call.place r (Ok said) to.place → record { progress = step.0; entry = Some e; after = Client step.1 } ≡ batch_move to said
+    → l'.history ≡ record l.history { entries = l.history.entries ++ entry_of l.numbers caller e.what ∷ []; spare = l.history.spare - 1 }
+    → ((other : ℕ) → next_number l'.numbers other ≡ number_of_next l.numbers caller other) → l'.fault_entries ≡ faults_with e.what l.fault_entries
+    → Answered call r l caller (Ok step) l'
+answered_with call to r l l' caller said step e same moves is history numbers faults = record {
+  entry = Some e;
+  goes = record { said = said; to = to; same = same; absorbs = moves; is = is };
+  adds = adds_one l l' caller e history numbers faults;
+}
+
+-- the move of an answer
+pub written_move : (to : Call) (said : BatchProgress) (tags copy : List Tag) (ops : List Op) → said ≡ batch.Written tags → copy ≡ tags → ops ≡ to.batch
+    → record { progress = Done (Written tags); entry = Some (record { what = what.Batch ops copy; reply = told.Written tags }); after = Client client.Ended } ≡ batch_move to said
+written_move to said tags copy ops is copied whole =
+    ap (λ b. record { progress = Done (Written tags); entry = Some (record { what = what.Batch b copy; reply = told.Written tags }); after = Client client.Ended }) whole
+    ∙ ap (λ t. record { progress = Done (Written tags); entry = Some (record { what = what.Batch to.batch t; reply = told.Written tags }); after = Client client.Ended }) copied
+    ∙ ap (batch_move to) (sym is)
+
+pub refused_move : (to : Call) (said : BatchProgress) (refusal : Refusal) (ops : List Op) → said ≡ batch.Refused refusal → ops ≡ to.batch
+    → record { progress = Done (Refused refusal); entry = Some (record { what = what.Refused ops; reply = told.Refused refusal }); after = Client client.Ended } ≡ batch_move to said
+refused_move to said refusal ops is whole =
+    ap (λ b. record { progress = Done (Refused refusal); entry = Some (record { what = what.Refused b; reply = told.Refused refusal }); after = Client client.Ended }) whole
+    ∙ ap (batch_move to) (sym is)
+
+pub answered_more : (call to : Call) (r : StoreReply) (l : Log) (caller : ℕ) → to.batch ≡ call.batch → Absorbs call.batch call.place r (Ok batch.More) to.place → Answered call r l caller (Ok (More, client.Batch to)) l
+answered_more call to r l caller same moves = record {
+  entry = None;
+  goes = record { said = batch.More; to = to; same = same; absorbs = moves; is = refl };
+  adds = adds_none l l caller (reserves_self l);
 }
 
 -- ---- turns
 
--- the call was made, and the history has another number of entries in hand, or one entry more
-pub record WasCalled (c c' : Stage) (call : Call) (ask : StoreAsk) (r : Result StoreReply CallFault) (h : Kept) : Type 0 where
+-- the call was made, in memory that was taken for an entry
+pub record WasCalled (c c' : Stage) (call : Call) (ask : StoreAsk) (r : Result StoreReply CallFault) (l : Log) : Type 0 where
   pub fits : CallFits call
-  pub room : has_room c.history (batch_weight call.batch) ≡ true
-  pub same : h ≡ record c.history { spare = h.spare }
+  pub room : has_room c.log.history (batch_weight call.batch) ≡ true
+  pub reserves : Reserves c.log l
   pub asks : Asks call.batch call.place ask
   pub one : OneCall c ask r c'
 
 pub has_room_at : (h k : Kept) (n weight : ℕ) (room : Bool) → room ≡ true → room ≡ has_room h n → h ≡ k → n ≡ weight → has_room k weight ≡ true
 has_room_at h k n weight room some is same sized = sym (ap (λ x. has_room x n) same ∙ ap (has_room k) sized) ∙ sym is ∙ some
 
-pub was_called : (c c' : Stage) (call : Call) (ask : StoreAsk) (r : Result StoreReply CallFault) (h : Kept) → CallFits call → has_room c.history (batch_weight call.batch) ≡ true → h ≡ record c.history { spare = h.spare } → Asks call.batch call.place ask
-    → CallsOn ask.side c.old_store c.new_store ask.ask r c'.old_store c'.new_store → c.calls < 2 ^ 64 → c'.calls ≡ min (c.calls + 1) (2 ^ 64 - 1) → WasCalled c c' call ask r h
-was_called c c' call ask r h fits room same asks on small calls = record { fits = fits; room = room; same = same; asks = asks; one = record { on = on; counted = calls; grew = omega (arith, small, calls) } }
+pub was_called : (c c' : Stage) (call : Call) (ask : StoreAsk) (r : Result StoreReply CallFault) (l : Log) → CallFits call → has_room c.log.history (batch_weight call.batch) ≡ true → Reserves c.log l → Asks call.batch call.place ask
+    → CallsOn ask.side c.old_store c.new_store ask.ask r c'.old_store c'.new_store → c.calls < 2 ^ 64 → c'.calls ≡ min (c.calls + 1) (2 ^ 64 - 1) → WasCalled c c' call ask r l
+was_called c c' call ask r l fits room reserves asks on small calls = record { fits = fits; room = room; reserves = reserves; asks = asks; one = record { on = on; counted = calls; grew = omega (arith, small, calls) } }
 
 same_read : (q : RangeQuery) (found : Found) (n : ℕ) (s t : Option Contents) → Onward (Means n (ask.Query q) (reply.Found found)) s t → Onward Same s t
 same_read q found n s None h = tt
 same_read q found n None (Some b) h = absurd h
 same_read q found n (Some a) (Some b) h = h.0
+
+-- a call that did not fail raised no count of faults
+pub same_faults : (s t : Store) → t ≡ s → t.faults ≡ s.faults
+same_faults s t e = ap (λ (x : Store). x.faults) e
 
 -- a read changed nothing
 read_in_vain : (c c' : Stage) (call : Call) (ask : StoreAsk) (names : List (List ℕ)) (found : Found) → Asks call.batch call.place ask → ask ≡ reads_old (partition_of call.batch) names → OneCall c ask (Ok (reply.Found found)) c' → CalledInVain c (Client (client.Batch call)) c'
@@ -164,9 +225,12 @@ read_in_vain c c' call ask names found asks is one =
       ask = ask;
       asks = asks;
       answer = Ok (reply.Found found);
+      lost = tt;
       call = one;
       old_same = same_read _ found c.old_store.number c.old_store.told c'.old_store.told on.0.shows.2;
       new_same = stays_same c.new_store c'.new_store on.1;
+      old_faults = on.0.faults;
+      new_faults = same_faults c.new_store c'.new_store on.1;
     }
 
 -- want of memory comes only of a read
@@ -191,43 +255,84 @@ in_vain c c' call BirthOld ask (reply.Unmet i) none to is asks one h = absurd h
 in_vain c c' call BirthOld ask reply.SealedOff none to is asks one h = absurd h
 
 -- how the actor moves with a reply
-answer_moves : (c c' : Stage) (call : Call) (ask : StoreAsk) (answer : StoreReply) (r : Result (Progress × ClientCall) TurnFault) → Asks call.batch call.place ask → OneCall c ask (Ok answer) c' → GoesOn call answer r → Moves c (Client (client.Batch call)) (said_by r) c' (left_by r)
-answer_moves c c' call ask answer (Ok step) asks one goes = (ask, answer, asks, one, goes)
-answer_moves c c' call ask answer (Err NoMemory) asks one goes = (inr (in_vain c c' call call.place ask answer goes.0 goes.1 refl asks one goes.2), refl)
-answer_moves c c' call ask answer (Err StoreFault) asks one goes = absurd goes
-answer_moves c c' call ask answer (Err HistoryFull) asks one goes = absurd goes
+answer_moves : (c c' : Stage) (call : Call) (ask : StoreAsk) (answer : StoreReply) (r : Result (Progress × ClientCall) TurnFault) (entry : Option NewEntry) → Asks call.batch call.place ask → OneCall c ask (Ok answer) c' → GoesOn call answer r entry → Moves c (Client (client.Batch call)) (said_by r) entry c' (left_by r)
+answer_moves c c' call ask answer (Ok step) entry asks one goes = (ask, answer, asks, one, goes)
+answer_moves c c' call ask answer (Err NoMemory) entry asks one goes = (inr (in_vain c c' call call.place ask answer goes.0 goes.1 refl asks one goes.2), goes.3, refl)
+answer_moves c c' call ask answer (Err StoreFault) entry asks one goes = absurd goes
+answer_moves c c' call ask answer (Err HistoryFull) entry asks one goes = absurd goes
 
-answer_is_not_full : (call : Call) (answer : StoreReply) (r : Result (Progress × ClientCall) TurnFault) → GoesOn call answer r → is_full (said_by r) ≡ false
-answer_is_not_full call answer (Ok step) goes = refl
-answer_is_not_full call answer (Err NoMemory) goes = refl
-answer_is_not_full call answer (Err StoreFault) goes = absurd goes
-answer_is_not_full call answer (Err HistoryFull) goes = absurd goes
+answer_is_not_full : (call : Call) (answer : StoreReply) (r : Result (Progress × ClientCall) TurnFault) (entry : Option NewEntry) → GoesOn call answer r entry → is_full (said_by r) ≡ false
+answer_is_not_full call answer (Ok step) entry goes = refl
+answer_is_not_full call answer (Err NoMemory) entry goes = refl
+answer_is_not_full call answer (Err StoreFault) entry goes = absurd goes
+answer_is_not_full call answer (Err HistoryFull) entry goes = absurd goes
 
 -- the turn of a call that the store answered
-pub answered_takes : (c c' : Stage) (caller : ℕ) (call : Call) (ask : StoreAsk) (answer : StoreReply) (h : Kept) (r : Result (Progress × ClientCall) TurnFault) → WasCalled c c' call ask (Ok answer) h
-    → Answered call answer h caller r c'.history → TakesTurn c caller (Client (client.Batch call)) (said_by r) c' (left_by r)
-answered_takes c c' caller call ask answer h r was after = record {
-  fits = was.fits;
-  full = answer_is_not_full call answer r after.goes ∙ sym (ap not was.room);
-  moves = answer_moves c c' call ask answer r was.asks was.one after.goes;
-  entries = after.entries ∙ ap (λ k. entries_with k.entries caller (what_of call.batch (said_by r))) was.same;
-  first = after.first ∙ ap (λ k. k.first) was.same;
-  limit = after.limit ∙ ap (λ k. k.limit) was.same;
-}
+pub answered_takes : (c c' : Stage) (caller : ℕ) (call : Call) (ask : StoreAsk) (answer : StoreReply) (l : Log) (r : Result (Progress × ClientCall) TurnFault) → WasCalled c c' call ask (Ok answer) l
+    → Answered call answer l caller r c'.log → TakesSomeTurn c caller (Client (client.Batch call)) (said_by r) c' (left_by r)
+answered_takes c c' caller call ask answer l r was after = (
+  after.entry,
+  record {
+    fits = was.fits;
+    full = answer_is_not_full call answer r after.entry after.goes ∙ sym (ap not was.room);
+    moves = answer_moves c c' call ask answer r after.entry was.asks was.one after.goes;
+    adds = adds_after c.log l c'.log caller after.entry was.reserves after.adds;
+  },
+)
 
 quiet_call : (c c' : Stage) (call : Call) (ask : StoreAsk) → Asks call.batch call.place ask → OneCall c ask (Err call_fault.NoMemory) c' → CalledInVain c (Client (client.Batch call)) c'
 quiet_call c c' call ask asks one = by ask.side one.on where
   by : (side : Side) → CallsOn side c.old_store c.new_store ask.ask (Err call_fault.NoMemory) c'.old_store c'.new_store → CalledInVain c (Client (client.Batch call)) c'
-  by Old on = record { ask = ask; asks = asks; answer = Err call_fault.NoMemory; call = one; old_same = on.0.shows; new_same = stays_same c.new_store c'.new_store on.1 }
-  by New on = record { ask = ask; asks = asks; answer = Err call_fault.NoMemory; call = one; old_same = stays_same c.old_store c'.old_store on.1; new_same = on.0.shows }
+  by Old on = record { ask = ask; asks = asks; answer = Err call_fault.NoMemory; lost = tt; call = one; old_same = on.0.shows; new_same = stays_same c.new_store c'.new_store on.1; old_faults = on.0.faults; new_faults = same_faults c.new_store c'.new_store on.1 }
+  by New on = record { ask = ask; asks = asks; answer = Err call_fault.NoMemory; lost = tt; call = one; old_same = stays_same c.old_store c'.old_store on.1; new_same = on.0.shows; old_faults = same_faults c.old_store c'.old_store on.1; new_faults = on.0.faults }
 
 -- the turn of a call for which the store had no memory
-pub unanswered_takes : (c c' : Stage) (caller : ℕ) (call : Call) (ask : StoreAsk) (h : Kept) → WasCalled c c' call ask (Err call_fault.NoMemory) h → c'.history ≡ h → TakesTurn c caller (Client (client.Batch call)) (Err NoMemory) c' (Client client.Ended)
-unanswered_takes c c' caller call ask h was after = record {
-  fits = was.fits;
-  full = sym (ap not was.room);
-  moves = (inr (quiet_call c c' call ask was.asks was.one), refl);
-  entries = ap (λ k. k.entries) (after ∙ was.same);
-  first = ap (λ k. k.first) (after ∙ was.same);
-  limit = ap (λ k. k.limit) (after ∙ was.same);
-}
+pub unanswered_takes : (c c' : Stage) (caller : ℕ) (call : Call) (ask : StoreAsk) (l : Log) → WasCalled c c' call ask (Err call_fault.NoMemory) l → c'.log ≡ l → TakesSomeTurn c caller (Client (client.Batch call)) (Err NoMemory) c' (Client client.Ended)
+unanswered_takes c c' caller call ask l was after = (
+  None,
+  record {
+    fits = was.fits;
+    full = sym (ap not was.room);
+    moves = (inr (quiet_call c c' call ask was.asks was.one), refl, refl);
+    adds = adds_none c.log c'.log caller (subst (Reserves c.log) (sym after) was.reserves);
+  },
+)
+
+-- the turn of a call that the store failed
+pub failed_takes : (c c' : Stage) (caller : ℕ) (call : Call) (ask : StoreAsk) (l : Log) → WasCalled c c' call ask (Err call_fault.Failed) l
+    → c'.log.history ≡ record l.history { entries = l.history.entries ++ entry_of l.numbers caller what.Fault ∷ []; spare = l.history.spare - 1 }
+    → ((other : ℕ) → next_number c'.log.numbers other ≡ number_of_next l.numbers caller other) → c'.log.fault_entries ≡ faults_with what.Fault l.fault_entries
+    → TakesSomeTurn c caller (Client (client.Batch call)) (Err StoreFault) c' (Client client.Ended)
+failed_takes c c' caller call ask l was history numbers faults = (
+  Some fault_entry,
+  record {
+    fits = was.fits;
+    full = sym (ap not was.room);
+    moves = (ask, was.asks, was.one, refl, refl);
+    adds = adds_after c.log l c'.log caller (Some fault_entry) was.reserves (adds_one l c'.log caller fault_entry history numbers faults);
+  },
+)
+
+-- the turn of a call for whose entry there is no memory, and of one for which the history has no room
+pub starved_takes : (c c' : Stage) (caller : ℕ) (call : Call) → CallFits call → has_room c.log.history (batch_weight call.batch) ≡ true → Reserves c.log c'.log → c'.old_store ≡ c.old_store → c'.new_store ≡ c.new_store → c'.calls ≡ c.calls
+    → TakesSomeTurn c caller (Client (client.Batch call)) (Err NoMemory) c' (Client client.Ended)
+starved_takes c c' caller call fits room reserves old new calls = (
+  None,
+  record {
+    fits = fits;
+    full = sym (ap not room);
+    moves = (inl (record { old_store = old; new_store = new; calls = calls }), refl, refl);
+    adds = adds_none c.log c'.log caller reserves;
+  },
+)
+
+pub full_takes : (c : Stage) (caller : ℕ) (call : Call) → CallFits call → has_room c.log.history (batch_weight call.batch) ≡ false → TakesSomeTurn c caller (Client (client.Batch call)) (Err HistoryFull) c (Client client.Ended)
+full_takes c caller call fits room = (
+  None,
+  record {
+    fits = fits;
+    full = sym (ap not room);
+    moves = (record { old_store = refl; new_store = refl; calls = refl }, refl, refl);
+    adds = adds_none c.log c.log caller (reserves_self c.log);
+  },
+)

@@ -1,408 +1,421 @@
--- A turn keeps the world, and does what it is to do.
-use Rattle.std.proofs.Common.{◌≡◌, ◌≢◌, ◌∙◌, ◌⊎◌, ℕ, ◌+◌, ◌-◌, ◌^◌, ◌≤◌, ◌<◌, Bool, true, false, List, [], ◌∷◌, ◌++◌, refl, sym, ap, subst, arith, inl, inr, All, Contains, IsTrue, Some, Result, Ok, Err}
-use Rattle.std.specs.Prelude.{IsSome}
-use Rattle.std.specs.List.{zip}
+-- A turn keeps the world, and does what it is to do: proved once for any actor whose step is one of the law for every step.
+use Rattle.std.proofs.Common.{◌≡◌, ◌∙◌, ◌⊎◌, ℕ, ◌+◌, ◌-◌, ◌^◌, ◌≤◌, ◌<◌, Bool, true, false, ◌&&◌, nat_lt, List, [], ◌∷◌, length, refl, sym, ap, subst, arith, inl, inr, IsTrue, Option, Some, None, Result, Ok, Err, if◌then◌else◌}
+use Rattle.std.specs.Prelude.{min, IsSome, not, nat_le}
+use Rattle.std.proofs.lemmas.Bool.Decides.{nat_tests}
 use Rattle.mt_model.specs.declared.entity.Entity.{Entity}
-use Rattle.mt_model.specs.declared.tag.Tag.{Tag}
-use Rattle.mt_chain.specs.declared.op.Op.{Op}
-use Rattle.mt_chain.specs.declared.row.StoredRow.{StoredRow}
+use Rattle.mt_chain.specs.declared.ask.Side.{Side}
+use Rattle.mt_chain.specs.declared.ask.Side.TheVariants.{Old, New}
+use Rattle.mt_chain.specs.declared.ask.Ask.{Ask}
 use Rattle.mt_chain.specs.declared.ask.StoreAsk.{StoreAsk}
 use Rattle.mt_chain.specs.declared.ask.StoreReply.{StoreReply}
+use Rattle.mt_chain.specs.declared.ask.CallFault.{CallFault}
 use Rattle.mt_chain.specs.declared.ask.CallFault.TheVariants as call_fault
 use Rattle.mt_chain.specs.Rows.{are_rising}
 use Rattle.mt_chain.specs.StoreCall.{Contents}
-use Rattle.mt_chain.specs.Store.{Rose}
+use Rattle.mt_chain.specs.Store.{Store, Rose, Same}
+use Rattle.mt_chain.specs.Table.{IsSameTable, rows_of}
 use Rattle.mt_chain.specs.Batch.{refusal_of}
-use Rattle.mt_rules.specs.Batches.{partition_of}
+use Rattle.mt_history.specs.declared.entry.What.{What}
 use Rattle.mt_history.specs.declared.entry.What.TheVariants as what
 use Rattle.mt_history.specs.declared.entry.Entry.{Entry}
-use Rattle.mt_history.specs.declared.model.Reply.TheVariants as told
-use Rattle.mt_history.specs.Replies.{rows_of, refusal_reply}
-use Rattle.mt_history.specs.Legal.{IsTrueAtEnd, all_tags}
-use Rattle.mt_meta.specs.Logical.{Pair, NoOld, AtUseOld, old_state_at}
-use Rattle.mt_meta.specs.Facts.{Fact, InOld, RowIs, Kept, Begun, There, Turned, Closed, Moved, Epoch, Clean, Swept, Retired, Holds, Apart, ApartFrom, Grows}
-use Rattle.mt_meta.specs.Steps.{logical_table, AllHold, row_facts}
-use Rattle.mt_meta.proofs.Growth.{fact_kept}
-use Rattle.mt_batch_plan.specs.declared.place.Place.{Place}
-use Rattle.mt_batch_plan.specs.declared.place.Place.TheVariants.{ReadOld, WriteOld, BirthOld}
+use Rattle.mt_history.specs.Kept.{Kept, has_room}
+use Rattle.mt_history.specs.Weight.{total_weight}
+use Rattle.mt_history.specs.Replies.{Replies, refusal_reply}
+use Rattle.mt_meta.specs.Logical.{Pair}
+use Rattle.mt_meta.specs.Sound.{IsSound}
+use Rattle.mt_meta.specs.declared.fact.Fact.{Fact}
+use Rattle.mt_meta.specs.Facts.{Holds, ApartFrom}
+use Rattle.mt_meta.specs.Steps.{logical_table, AllHold, IsEmptied, ActorStep, PairMeans}
+use Rattle.mt_meta.proofs.Growth.{grows_self, fact_kept}
+use Rattle.mt_meta.proofs.Actors.{others_kept}
+use Rattle.mt_rules.specs.Batches.{partition_of}
 use Rattle.mt_batch_plan.specs.declared.call.BatchProgress.{BatchProgress}
 use Rattle.mt_batch_plan.specs.declared.call.BatchProgress.TheVariants as batch
 use Rattle.mt_batch_plan.specs.Calls.{Call, CallFits, Asks, Absorbs, place_facts, call_facts}
-use Rattle.mt_batch_plan.specs.BatchSteps.{BatchStep, IsWritten, IsFresh, IsAtUseOld, StaysInOld}
+use Rattle.mt_batch_plan.specs.BatchSteps.{Does}
+use Rattle.mt_batch_plan.specs.Unmoved.{IsUnmoved}
 use Rattle.mt_batch_plan.proofs.BatchLaw.{batch_law}
+use Rattle.mt_batch_plan.proofs.UnmovedLaws.{unmoved_law}
 use Rattle.mt_world.specs.declared.actor.ClientCall.TheVariants as client
 use Rattle.mt_world.specs.declared.actor.Actor.{Actor}
 use Rattle.mt_world.specs.declared.actor.Actor.TheVariants.{Client}
 use Rattle.mt_world.specs.declared.actor.Progress.{Progress}
 use Rattle.mt_world.specs.declared.actor.TurnFault.{TurnFault}
 use Rattle.mt_world.specs.declared.actor.TurnFault.TheVariants.{StoreFault, HistoryFull, NoMemory}
-use Rattle.mt_world.specs.Worlds.{WorldState, pair_of, ForPair, window_of, table_now, faults_in, IsGiven, IsReplayed, AreCounted, IsWorld}
-use Rattle.mt_world.specs.Turns.{actor_facts, Knows, ended, progress_of, batch_after, BatchMoves, Stage, stage_of, OneCall, NoCall, CalledInVain, Moves, what_of, entry_of, entries_with, RepliesAt, TakesTurn, KeepsApart, IsSameWorld, Turns}
-use Rattle.mt_world.proofs.PairLaws.{for_pair, at_pair, map_pair, same_pair, IsQuiet, carried, quiet_tells, Before, before, called_tells, failed_quiet, failed_rose, IsCalled, called, not_called, stays_same}
-use Rattle.mt_world.proofs.EntryLaws.{replay_stays, replay_grows, Grown, still_grown, refusal_same, applied_same, gone_same, faults_more, counts_on, counts_rise}
+use Rattle.mt_world.specs.Worlds.{WorldState, pair_of, ForPair, Tells, IsTrueOf, AreTrueOf, KeepsApart, table_now, next_number, number_due, is_fault, faults_in, entry_of, IsReplayed, AreCounted, IsWorld}
+use Rattle.mt_world.specs.Moves.{NewEntry, Move, BatchMoves, batch_move, ActorFits, ActorAsks, ActorMoves, actor_facts, need_of, after_fault, fault_entry, retired_by}
+use Rattle.mt_world.specs.Logs.{Log, raised, Adds, faults_with, faults_after, entries_with, number_of_next}
+use Rattle.mt_world.specs.Turns.{Stage, log_of, stage_of, CallsOn, OneCall, NoCall, CalledInVain, Moves, IsCalledOn, RiseTogether, TakesTurn, TakesSomeTurn, RepliesAt, Knows, IsSameWorld, Turns, Turned}
+use Rattle.mt_world.proofs.PairLaws.{told_before, for_pair, at_pair, same_pair, IsQuiet, quiet_tells, Before, before, called_tells, failed_quiet, failed_rose, IsCalled, called, not_called, stays_same}
+use Rattle.mt_world.proofs.LogLaws.{due_step, counted_with, room_few}
+use Rattle.mt_world.proofs.EntryLaws.{Still, SaysOf, EntryDoes, IsStepped, replay_on, replies_same, counts_on, counts_rise}
 
--- ---- what all turns of a client keep
+-- ---- the step of each actor, by the law of its machine
+
+-- what a batch's step does, as the entry that it leaves says it
+batch_does : (to : Call) (said : BatchProgress) (p q : Pair) → Does to.batch said p q → EntryDoes (batch_move to said).entry p q
+batch_does to batch.More p q does = λ key. ap (λ x. logical_table x key) does
+batch_does to (batch.Written tags) p q does = (does, refl)
+batch_does to (batch.Refused refusal) p q does = ((λ key. ap (λ x. logical_table x key) does.0, subst IsSome (sym does.1) refl), ap refusal_reply (sym does.1))
+
+-- what it knows afterwards, and that others' facts are apart from that
+batch_knows : (said : BatchProgress) (call to : Call) (q : Pair) (retired : Bool) → to.batch ≡ call.batch → AllHold q retired (place_facts (partition_of call.batch) to.place) → AllHold q retired (actor_facts (batch_move to said).after)
+batch_knows batch.More call to q retired same knows = subst (λ ops. AllHold q retired (place_facts (partition_of ops) to.place)) (sym same) knows
+batch_knows (batch.Written tags) call to q retired same knows = tt
+batch_knows (batch.Refused refusal) call to q retired same knows = tt
+
+batch_apart : (said : BatchProgress) (call to : Call) (f : Fact) → to.batch ≡ call.batch → ApartFrom f (place_facts (partition_of call.batch) to.place) → ApartFrom f (actor_facts (batch_move to said).after)
+batch_apart batch.More call to f same apart = subst (λ ops. ApartFrom f (place_facts (partition_of ops) to.place)) (sym same) apart
+batch_apart (batch.Written tags) call to f same apart = tt
+batch_apart (batch.Refused refusal) call to f same apart = tt
+
+-- a step of an actor over a told pair, with a reply that means so
+abbrev pub ActorSteps : Actor → Bool → Move → Pair → Pair → Type 0
+ActorSteps a retired move p q = ActorStep (actor_facts a) (actor_facts move.after) retired (retired_by a (Ok move.progress) retired) (EntryDoes move.entry) p q
+
+batch_step : (call : Call) (ask : StoreAsk) (answer : StoreReply) (move : Move) (p q : Pair) (retired : Bool) → CallFits call → Asks call.batch call.place ask → PairMeans ask answer p q → BatchMoves call answer move
+    → IsSound p → AllHold p retired (call_facts call) → ActorSteps (Client (client.Batch call)) retired move p q
+batch_step call ask answer move p q retired fits asks means moves sound knows = subst (λ m. ActorSteps (Client (client.Batch call)) retired m p q) (sym moves.is) by where
+  s : ActorStep (place_facts (partition_of call.batch) call.place) (place_facts (partition_of call.batch) moves.to.place) retired retired (Does call.batch moves.said) p q
+  s = batch_law call.batch call.place moves.to.place ask answer moves.said p q retired fits.batch fits.place sound knows asks means moves.absorbs
+
+  by : ActorSteps (Client (client.Batch call)) retired (batch_move moves.to moves.said) p q
+  by = record {
+    sound = s.sound;
+    grows = s.grows;
+    knows = batch_knows moves.said call moves.to q retired moves.same s.knows;
+    apart = λ f holds apart. batch_apart moves.said call moves.to f moves.same (s.apart f holds apart);
+    stays = s.stays;
+    retires = s.retires;
+    does = batch_does moves.to moves.said p q (subst (λ ops. Does ops moves.said p q) (sym moves.same) s.does);
+  }
+
+-- each kind of actor has its line here
+pub actor_step : (a : Actor) (ask : StoreAsk) (answer : StoreReply) (move : Move) (p q : Pair) (retired : Bool) → ActorFits a → ActorAsks a ask → PairMeans ask answer p q → ActorMoves a answer move
+    → IsSound p → AllHold p retired (actor_facts a) → ActorSteps a retired move p q
+actor_step (Client (client.Batch call)) ask answer move p q retired fits asks means moves sound knows = batch_step call ask answer move p q retired fits asks means moves sound knows
+actor_step (Client client.Ended) ask answer move p q retired fits asks means moves sound knows = absurd asks
+
+-- and here: nothing moves yet
+actor_unmoved : (a : Actor) (ask : StoreAsk) (answer : StoreReply) (move : Move) (p q : Pair) (retired : Bool) → ActorFits a → ActorAsks a ask → PairMeans ask answer p q → ActorMoves a answer move
+    → IsSound p → AllHold p retired (actor_facts a) → IsUnmoved p → IsUnmoved q
+actor_unmoved (Client (client.Batch call)) ask answer move p q retired fits asks means moves sound knows unmoved =
+    unmoved_law call.batch call.place moves.to.place ask answer moves.said p q retired fits.batch fits.place sound knows asks means moves.absorbs unmoved
+actor_unmoved (Client client.Ended) ask answer move p q retired fits asks means moves sound knows unmoved = absurd asks
+
+-- a turn that comes to nothing leaves an actor that knows nothing more than before, and the world as retired as it was
+fault_knows : (a : Actor) (p : Pair) (retired : Bool) → AllHold p retired (actor_facts a) → AllHold p retired (actor_facts (after_fault a))
+fault_knows (Client call) p retired knows = tt
+
+fault_apart : (a : Actor) (f : Fact) → ApartFrom f (actor_facts a) → ApartFrom f (actor_facts (after_fault a))
+fault_apart (Client call) f apart = tt
+
+fault_retired : (a : Actor) (fault : TurnFault) (retired : Bool) → retired_by a (Err fault) retired ≡ retired
+fault_retired (Client call) fault retired = refl
+
+-- ---- what all turns keep
 
 -- what the code leaves alone
-pub record IsFramed (w w' : WorldState) : Type 0 where
+pub record IsFramed (w : WorldState) (a : Actor) (r : Result Progress TurnFault) (w' : WorldState) : Type 0 where
   pub base : w'.base ≡ w.base
   pub generation : w'.generation ≡ w.generation
-  pub retired : w'.retired ≡ w.retired
-  pub old_faults : w'.old_faults ≡ w.old_faults
-  pub new_faults : w'.new_faults ≡ w.new_faults
+  pub retired : w'.retired ≡ retired_by a r w.retired
+  pub opened_faults : w'.opened_faults ≡ w.opened_faults
 
-pub moved : (c c' : Stage) (a a' : Actor) (r : Result Progress TurnFault) → Moves c a r c' a' → IsCalled c.old_store c.new_store c'.old_store c'.new_store
-moved c c' a a' (Ok progress) m = called c.old_store c.new_store c'.old_store c'.new_store m.0.side m.0.ask (Ok m.1) m.3.on
-moved c c' a a' (Err StoreFault) m = called c.old_store c.new_store c'.old_store c'.new_store m.0.side m.0.ask (Err call_fault.Failed) m.2.on
-moved c c' a a' (Err HistoryFull) m = not_called c.old_store c.new_store c'.old_store c'.new_store m.0.old_store m.0.new_store
-moved c c' a a' (Err NoMemory) m = elim m.0 as (λ _. IsCalled c.old_store c.new_store c'.old_store c'.new_store) [
+pub moved : (c c' : Stage) (a a' : Actor) (r : Result Progress TurnFault) (entry : Option NewEntry) → Moves c a r entry c' a' → IsCalled c.old_store c.new_store c'.old_store c'.new_store
+moved c c' a a' (Ok progress) entry m = called c.old_store c.new_store c'.old_store c'.new_store m.0.side m.0.ask (Ok m.1) m.3.on
+moved c c' a a' (Err StoreFault) entry m = called c.old_store c.new_store c'.old_store c'.new_store m.0.side m.0.ask (Err call_fault.Failed) m.2.on
+moved c c' a a' (Err HistoryFull) entry m = not_called c.old_store c.new_store c'.old_store c'.new_store m.0.old_store m.0.new_store
+moved c c' a a' (Err NoMemory) entry m = elim m.0 as (λ _. IsCalled c.old_store c.new_store c'.old_store c'.new_store) [
   | inl none ↦ not_called c.old_store c.new_store c'.old_store c'.new_store none.old_store none.new_store
   | inr vain ↦ called c.old_store c.new_store c'.old_store c'.new_store vain.ask.side vain.ask.ask vain.answer vain.call.on
 ]
 
-same_world : (w w' : WorldState) (caller : ℕ) (a a' : Actor) (r : Result Progress TurnFault) → IsFramed w w' → TakesTurn (stage_of w) caller a r (stage_of w') a' → IsSameWorld w w'
-same_world w w' caller a a' r frame takes =
-    let k = moved (stage_of w) (stage_of w') a a' r takes.moves in
+-- counts of calls
+same_calls : (s t : Store) → t ≡ s → t.calls ≡ s.calls
+same_calls s t e = ap (λ (x : Store). x.calls) e
+
+called_once : (c c' : Stage) (side : Side) (ask : Ask) (r : Result StoreReply CallFault) → CallsOn side c.old_store c.new_store ask r c'.old_store c'.new_store → IsCalledOn side c c'
+called_once c c' Old ask r h = (h.0.counted.calls, same_calls c.new_store c'.new_store h.1)
+called_once c c' New ask r h = (same_calls c.old_store c'.old_store h.1, h.0.counted.calls)
+
+one_rises : (c c' : Stage) (ask : StoreAsk) (r : Result StoreReply CallFault) → OneCall c ask r c' → RiseTogether c c'
+one_rises c c' ask r one = inr (ask.side, called_once c c' ask.side ask.ask r one.on, one.counted)
+
+none_rises : (c c' : Stage) → NoCall c c' → RiseTogether c c'
+none_rises c c' none = inl (same_calls c.old_store c'.old_store none.old_store, same_calls c.new_store c'.new_store none.new_store, none.calls)
+
+rises : (c c' : Stage) (a a' : Actor) (r : Result Progress TurnFault) (entry : Option NewEntry) → Moves c a r entry c' a' → RiseTogether c c'
+rises c c' a a' (Ok progress) entry m = one_rises c c' m.0 (Ok m.1) m.3
+rises c c' a a' (Err StoreFault) entry m = one_rises c c' m.0 (Err call_fault.Failed) m.2
+rises c c' a a' (Err HistoryFull) entry m = none_rises c c' m.0
+rises c c' a a' (Err NoMemory) entry m = elim m.0 as (λ _. RiseTogether c c') [ inl none ↦ none_rises c c' none | inr vain ↦ one_rises c c' vain.ask vain.answer vain.call ]
+
+same_world : (w w' : WorldState) (caller : ℕ) (a a' : Actor) (r : Result Progress TurnFault) (entry : Option NewEntry) → IsFramed w a r w' → TakesTurn (stage_of w) caller a r entry (stage_of w') a' → IsSameWorld w w'
+same_world w w' caller a a' r entry frame takes =
+    let k = moved (stage_of w) (stage_of w') a a' r entry takes.moves in
     record {
       old_number = k.old_number;
       new_number = k.new_number;
       base = frame.base;
-      first = takes.first;
-      limit = takes.limit;
+      first = takes.adds.first;
+      limit = takes.adds.limit;
       generation = frame.generation;
-      retired = frame.retired;
-      old_faults = frame.old_faults;
-      new_faults = frame.new_faults;
+      opened_faults = frame.opened_faults;
     }
 
--- a world from its parts
-pub kept : (w w' : WorldState) → IsWorld w → IsSameWorld w w' → ForPair w' (IsReplayed w') → AreCounted w' → IsWorld w'
-kept w w' world same replayed counted = record {
-  numbers = (same.old_number ∙ world.numbers.0, same.new_number ∙ world.numbers.1);
+-- ---- a world from its parts
+
+-- a turn that leaves an entry found room for it
+full_room : (b : Bool) → false ≡ not b → b ≡ true
+full_room true e = refl
+full_room false e = absurd cc
+
+entry_room : (c c' : Stage) (caller : ℕ) (a a' : Actor) (r : Result Progress TurnFault) (e : NewEntry) → TakesTurn c caller a r (Some e) c' a' → has_room c.log.history (need_of a) ≡ true
+entry_room c c' caller a a' (Ok progress) e takes = full_room (has_room c.log.history (need_of a)) takes.full
+entry_room c c' caller a a' (Err StoreFault) e takes = full_room (has_room c.log.history (need_of a)) takes.full
+entry_room c c' caller a a' (Err HistoryFull) e takes = absurd (let x : Some e ≡ None = takes.moves.1 in cc)
+entry_room c c' caller a a' (Err NoMemory) e takes = absurd (let x : Some e ≡ None = takes.moves.1 in cc)
+
+due_on : (w w' : WorldState) (caller : ℕ) (entry : Option NewEntry) → ((q : ℕ) → next_number w.numbers q ≡ number_due w.history.entries q) → Adds (log_of w) caller entry (log_of w') → (q : ℕ) → next_number w'.numbers q ≡ number_due w'.history.entries q
+due_on w w' caller None due adds q = adds.numbers q ∙ due q ∙ ap (λ es. number_due es q) (sym adds.entries)
+due_on w w' caller (Some e) due adds q = adds.numbers q ∙ due_step w.numbers w.history.entries (entry_of w.numbers caller e.what) due refl q ∙ ap (λ es. number_due es q) (sym adds.entries)
+
+faults_on : (w w' : WorldState) (caller : ℕ) (a a' : Actor) (r : Result Progress TurnFault) (entry : Option NewEntry) → w.fault_entries ≡ faults_in w.history.entries → w.history.limit ≤ 1048576
+    → TakesTurn (stage_of w) caller a r entry (stage_of w') a' → w'.fault_entries ≡ faults_in w'.history.entries
+faults_on w w' caller a a' r None counted bounded takes = takes.adds.fault_entries ∙ counted ∙ ap faults_in (sym takes.adds.entries)
+faults_on w w' caller a a' r (Some e) counted bounded takes =
+    let few = room_few w.history (need_of a) (entry_room (stage_of w) (stage_of w') caller a a' r e takes) in
+    takes.adds.fault_entries ∙ counted_with w.history.entries (entry_of w.numbers caller e.what) w.fault_entries counted (omega (arith, few, bounded)) ∙ ap faults_in (sym takes.adds.entries)
+
+kept : (w w' : WorldState) (caller : ℕ) (a a' : Actor) (r : Result Progress TurnFault) (entry : Option NewEntry) → IsWorld w → IsSameWorld w w' → TakesTurn (stage_of w) caller a r entry (stage_of w') a'
+    → ForPair w' (IsReplayed w') → AreCounted w' → IsWorld w'
+kept w w' caller a a' r entry world same takes replayed counted = record {
+  numbers = (ap (λ n. n + 1) same.old_number ∙ world.numbers.0 ∙ sym same.generation, same.new_number ∙ world.numbers.1 ∙ sym same.generation);
   whole = same.first ∙ world.whole;
+  bounded = subst (λ n. n ≤ 1048576) (sym same.limit) world.bounded;
   rising = subst (λ base. IsTrue (are_rising (rows_of base))) (sym same.base) world.rising;
   replayed = replayed;
+  due = λ whole. due_on w w' caller entry (world.due world.whole) takes.adds;
+  fault_entries = λ whole. faults_on w w' caller a a' r entry (world.fault_entries world.whole) world.bounded takes;
   faults = counted;
 }
 
--- the counts of faults where the history has as many entries of faults as before
-counted_on : (w w' : WorldState) → IsWorld w → IsSameWorld w w' → IsCalled w.old_store w.new_store w'.old_store w'.new_store → faults_in w'.history.entries ≡ faults_in w.history.entries → AreCounted w'
+-- old comes before new
+stores_below : (w : WorldState) → IsWorld w → w.old_store.number < w.new_store.number
+stores_below w world = (let a = world.numbers.0 in let b = world.numbers.1 in omega (arith, a, b))
+
+-- the counts of faults where no entry of a fault comes
+counted_on : (w w' : WorldState) → IsWorld w → IsSameWorld w w' → IsCalled w.old_store w.new_store w'.old_store w'.new_store → w'.fault_entries ≡ w.fault_entries → AreCounted w'
 counted_on w w' world same called faults =
     subst (λ x. (x ≤ w'.old_store.faults + w'.new_store.faults) ⊎ ((2 ^ 64 - 1 ≤ w'.old_store.faults) ⊎ (2 ^ 64 - 1 ≤ w'.new_store.faults))) sums
-    (counts_on w.old_faults w.new_faults (faults_in w.history.entries) w.old_store.faults w.new_store.faults w'.old_store.faults w'.new_store.faults called.old_faults called.new_faults world.faults) where
-      sums : w.old_faults + w.new_faults + faults_in w.history.entries ≡ w'.old_faults + w'.new_faults + faults_in w'.history.entries
-      sums = (let a = same.old_faults in let b = same.new_faults in omega (arith, a, b, faults))
+    (counts_on w.opened_faults w.fault_entries w.old_store.faults w.new_store.faults w'.old_store.faults w'.new_store.faults called.old_faults called.new_faults world.faults) where
+      sums : w.opened_faults + w.fault_entries ≡ w'.opened_faults + w'.fault_entries
+      sums = (let a = same.opened_faults in omega (arith, a, faults))
 
+-- and where one comes
 counted_fault : (w w' : WorldState) → IsWorld w → IsSameWorld w w' → IsCalled w.old_store w.new_store w'.old_store w'.new_store
-    → Rose w.old_store.faults w'.old_store.faults ⊎ Rose w.new_store.faults w'.new_store.faults → faults_in w'.history.entries ≡ faults_in w.history.entries + 1 → AreCounted w'
+    → Rose w.old_store.faults w'.old_store.faults ⊎ Rose w.new_store.faults w'.new_store.faults → w'.fault_entries ≡ raised w.fault_entries → AreCounted w'
 counted_fault w w' world same called rose faults =
-    subst (λ x. (x ≤ w'.old_store.faults + w'.new_store.faults) ⊎ ((2 ^ 64 - 1 ≤ w'.old_store.faults) ⊎ (2 ^ 64 - 1 ≤ w'.new_store.faults))) sums
-    (counts_rise w.old_faults w.new_faults (faults_in w.history.entries) w.old_store.faults w.new_store.faults w'.old_store.faults w'.new_store.faults called.old_faults called.new_faults rose world.faults) where
-      sums : w.old_faults + w.new_faults + (faults_in w.history.entries + 1) ≡ w'.old_faults + w'.new_faults + faults_in w'.history.entries
-      sums = (let a = same.old_faults in let b = same.new_faults in omega (arith, a, b, faults))
+    subst (λ x. (x + w'.fault_entries ≤ w'.old_store.faults + w'.new_store.faults) ⊎ ((2 ^ 64 - 1 ≤ w'.old_store.faults) ⊎ (2 ^ 64 - 1 ≤ w'.new_store.faults))) (sym same.opened_faults)
+    (counts_rise w.opened_faults w.fault_entries w'.fault_entries w.old_store.faults w.new_store.faults w'.old_store.faults w'.new_store.faults called.old_faults called.new_faults (omega (arith, faults)) rose world.faults)
+
+-- ---- turns over a pair that is told before and after
+
+-- what a turn gives: the world is kept, and the turn is one
+pub record KeptAndTurned (w : WorldState) (caller : ℕ) (a : Actor) (r : Result Progress TurnFault) (entry : Option NewEntry) (w' : WorldState) (a' : Actor) : Type 0 where
+  pub world : IsWorld w'
+  pub turns : Turns w caller a r entry w' a'
+
+-- what is known of two told pairs, before the turn and after it
+pub record ToldStep (w w' : WorldState) (a a' : Actor) (entry : Option NewEntry) (p q : Pair) : Type 0 where
+  pub replayed : IsReplayed w p
+  pub step : ActorStep (actor_facts a) (actor_facts a') w.retired w'.retired (EntryDoes entry) p q
+  pub unmoved : IsUnmoved q
+
+reply_at : (w : WorldState) (entry : Option NewEntry) (w' : WorldState) → ((e : NewEntry) → entry ≡ Some e → ForPair w' (λ p. Replies e.what (table_now w) e.reply)) → RepliesAt w entry w'
+reply_at w None w' h = tt
+reply_at w (Some e) w' h = h e refl
+
+stepped_turn : (w w' : WorldState) (caller : ℕ) (a a' : Actor) (r : Result Progress TurnFault) (entry : Option NewEntry) → IsWorld w → IsFramed w a r w' → (Tells w' → Tells w) → AreCounted w'
+    → TakesTurn (stage_of w) caller a r entry (stage_of w') a'
+    → ((a1 b1 : Contents) → w'.old_store.told ≡ Some a1 → w'.new_store.told ≡ Some b1 → (a0 : Contents) × (b0 : Contents) × (w.old_store.told ≡ Some a0) × (w.new_store.told ≡ Some b0) × ToldStep w w' a a' entry (pair_of w a0 b0) (pair_of w a1 b1))
+    → KeptAndTurned w caller a r entry w' a'
+stepped_turn w w' caller a a' r entry world frame tells counted takes steps = record {
+  world = kept w w' caller a a' r entry world same takes replayed counted;
+  turns = record {
+    fits = takes.fits;
+    same = same;
+    retired = frame.retired;
+    tells = tells;
+    full = takes.full;
+    moves = takes.moves;
+    calls = rises (stage_of w) (stage_of w') a a' r entry takes.moves;
+    adds = takes.adds;
+    replies = reply_at w entry w' replies;
+    knows = by_step (λ p. AreTrueOf w' p (actor_facts a')) (λ p q t. t.step.knows);
+    keeps = keeps;
+  };
+} where
+  same : IsSameWorld w w'
+  same = same_world w w' caller a a' r entry frame takes
+
+  by_step : (P : Pair → Type 0) → ((p q : Pair) → ToldStep w w' a a' entry p q → P q) → ForPair w' P
+  by_step P f = for_pair w' P (λ a1 b1 ea eb. (let s = steps a1 b1 ea eb in subst P (sym (same_pair w w' same a1 b1)) (f (pair_of w s.0 s.1) (pair_of w a1 b1) s.4)))
+
+  replayed : ForPair w' (IsReplayed w')
+  replayed = for_pair w' (IsReplayed w') (λ a1 b1 ea eb. (let s = steps a1 b1 ea eb in let t = s.4 in subst (IsReplayed w') (sym (same_pair w w' same a1 b1))
+      (replay_on w w' caller (actor_facts a) (actor_facts a') (pair_of w s.0 s.1) (pair_of w a1 b1) entry takes.adds.entries t.replayed
+      (record { same = same; below = stores_below w world; due = world.due world.whole; step = t.step; unmoved = t.unmoved }))))
+
+  replies : (e : NewEntry) → entry ≡ Some e → ForPair w' (λ p. Replies e.what (table_now w) e.reply)
+  replies e is = by_step (λ p. Replies e.what (table_now w) e.reply) (λ p q t. (let d = subst (λ x. EntryDoes x p q) is t.step.does in replies_same e.what (logical_table p) (table_now w) e.reply t.replayed.table d.1))
+
+  keeps : KeepsApart w (actor_facts a) w' (actor_facts a')
+  keeps f stands = for_pair w' (λ p. IsTrueOf w' p f × ApartFrom f (actor_facts a')) (λ a1 b1 ea eb. (let s = steps a1 b1 ea eb in let t = s.4 in
+      let was = at_pair w (λ p. IsTrueOf w p f × ApartFrom f (actor_facts a)) s.0 s.1 s.2 s.3 stands in
+      subst (λ p. IsTrueOf w' p f × ApartFrom f (actor_facts a')) (sym (same_pair w w' same a1 b1)) (others_kept _ _ _ _ _ _ _ t.step t.replayed.sound f was.0 was.1)))
 
 -- ---- turns that leave what the stores hold
 
--- a fact goes on over stores that hold what they held, beside an actor that knows nothing any more
-quiet_keeps : (w w' : WorldState) (own : List Fact) → IsSameWorld w w' → IsQuiet w w' → KeepsApart w own w' []
-quiet_keeps w w' own same quiet f stands =
-    map_pair w' (λ p. Holds p w.retired f × ApartFrom f own) (λ p. Holds p w'.retired f × ApartFrom f [])
-    (λ p h. (subst (λ r. Holds p r f) (sym same.retired) h.0, tt))
-    (carried w w' same quiet (λ p. Holds p w.retired f × ApartFrom f own) stands)
-
-nothing_known : (w : WorldState) → Knows w (Client client.Ended)
-nothing_known w = for_pair w (λ p. AllHold p w.retired []) (λ a b ea eb. tt)
-
--- no entry
-pub quiet_world : (w w' : WorldState) → IsWorld w → IsSameWorld w w' → IsQuiet w w' → IsCalled w.old_store w.new_store w'.old_store w'.new_store → w'.history.entries ≡ w.history.entries → IsWorld w'
-quiet_world w w' world same quiet called entries =
-    kept w w' world same
-    (map_pair w' (IsReplayed w) (IsReplayed w') (λ p. replay_stays w w' p same entries) (carried w w' same quiet (IsReplayed w) world.replayed))
-    (counted_on w w' world same called (ap faults_in entries))
-
--- the entry of a fault
-fault_world : (w w' : WorldState) (caller : ℕ) → IsWorld w → IsSameWorld w w' → IsQuiet w w' → IsCalled w.old_store w.new_store w'.old_store w'.new_store
-    → Rose w.old_store.faults w'.old_store.faults ⊎ Rose w.new_store.faults w'.new_store.faults → w'.history.entries ≡ w.history.entries ++ entry_of w.history.entries caller what.Fault ∷ [] → IsWorld w'
-fault_world w w' caller world same quiet called rose entries =
-    kept w w' world same
-    (map_pair w' (IsReplayed w) (IsReplayed w') (λ p h. replay_grows w w' p p caller what.Fault same entries h (still_grown w p what.Fault h tt refl refl)) (carried w w' same quiet (IsReplayed w) world.replayed))
-    (counted_fault w w' world same called rose (ap faults_in entries ∙ faults_more w.history.entries (entry_of w.history.entries caller what.Fault)))
-
--- what a turn gives: the world is kept, and the turn is one
-pub record KeptAndTurned (w : WorldState) (caller : ℕ) (a : Actor) (r : Result Progress TurnFault) (w' : WorldState) (a' : Actor) : Type 0 where
-  pub world : IsWorld w'
-  pub turns : Turns w caller a r w' a'
-
--- a turn that ends in a fault
-ended_turn : (w w' : WorldState) (caller : ℕ) (a a' : Actor) (fault : TurnFault) → IsSameWorld w w' → TakesTurn (stage_of w) caller a (Err fault) (stage_of w') a'
-    → IsQuiet w w' → a' ≡ Client client.Ended → Turns w caller a (Err fault) w' a'
-ended_turn w w' caller a a' fault same takes quiet over = record {
-  fits = takes.fits;
-  same = same;
-  tells = quiet_tells w w' quiet;
-  full = takes.full;
-  moves = takes.moves;
-  entries = takes.entries;
-  replies = tt;
-  knows = subst (Knows w') (sym over) (nothing_known w');
-  keeps = subst (λ x. KeepsApart w (actor_facts a) w' (actor_facts x)) (sym over) (quiet_keeps w w' (actor_facts a) same quiet);
+-- a step of an actor that came to nothing, or to the entry of a fault
+quiet_step : (w w' : WorldState) (a : Actor) (entry : Option NewEntry) (p : Pair) → IsReplayed w p → AllHold p w.retired (actor_facts a) → w'.retired ≡ w.retired → EntryDoes entry p p → ToldStep w w' a (after_fault a) entry p p
+quiet_step w w' a entry p h knows same does = record {
+  replayed = h;
+  step = record {
+    sound = h.sound;
+    grows = grows_self (actor_facts a) p h.sound;
+    knows = fault_knows a p w'.retired (subst (λ r. AllHold p r (actor_facts a)) (sym same) knows);
+    apart = λ f holds apart. fault_apart a f apart;
+    stays = λ r. same ∙ r;
+    retires = λ r. inl (sym same ∙ r);
+    does = does;
+  };
+  unmoved = h.unmoved;
 }
 
-ended_client : (a : Actor) → ended a ≡ Client client.Ended
-ended_client (Client call) = refl
+quiet_steps : (w w' : WorldState) (a : Actor) (entry : Option NewEntry) → IsWorld w → Knows w a → w'.retired ≡ w.retired → IsQuiet w w' → ((p : Pair) → EntryDoes entry p p)
+    → (a1 b1 : Contents) → w'.old_store.told ≡ Some a1 → w'.new_store.told ≡ Some b1 → (a0 : Contents) × (b0 : Contents) × (w.old_store.told ≡ Some a0) × (w.new_store.told ≡ Some b0) × ToldStep w w' a (after_fault a) entry (pair_of w a0 b0) (pair_of w a1 b1)
+quiet_steps w w' a entry world knows same quiet does a1 b1 ea eb =
+    let x = told_before Same w.old_store.told w'.old_store.told a1 ea quiet.old in
+    let y = told_before Same w.new_store.told w'.new_store.told b1 eb quiet.new in (
+      x.0,
+      y.0,
+      x.1,
+      y.1,
+      subst (λ c. ToldStep w w' a (after_fault a) entry (pair_of w x.0 y.0) (pair_of w c b1)) (sym x.2) (subst (λ c. ToldStep w w' a (after_fault a) entry (pair_of w x.0 y.0) (pair_of w x.0 c)) (sym y.2)
+          (quiet_step w w' a entry (pair_of w x.0 y.0) (at_pair w (IsReplayed w) x.0 y.0 x.1 y.1 world.replayed) (at_pair w (λ p. AreTrueOf w p (actor_facts a)) x.0 y.0 x.1 y.1 knows) same (does (pair_of w x.0 y.0)))),
+    )
 
-fault_turn : (w w' : WorldState) (caller : ℕ) (a a' : Actor) → IsWorld w → IsFramed w w' → TakesTurn (stage_of w) caller a (Err StoreFault) (stage_of w') a' → KeptAndTurned w caller a (Err StoreFault) w' a'
-fault_turn w w' caller a a' world frame takes =
+-- a turn that comes to nothing
+quiet_turn : (w w' : WorldState) (caller : ℕ) (a : Actor) (fault : TurnFault) (entry : Option NewEntry) → IsWorld w → Knows w a → IsFramed w a (Err fault) w' → IsQuiet w w' → AreCounted w' → ((p : Pair) → EntryDoes entry p p)
+    → TakesTurn (stage_of w) caller a (Err fault) entry (stage_of w') (after_fault a) → KeptAndTurned w caller a (Err fault) entry w' (after_fault a)
+quiet_turn w w' caller a fault entry world knows frame quiet counted does takes =
+    stepped_turn w w' caller a (after_fault a) (Err fault) entry world frame (quiet_tells w w' quiet) counted takes
+    (quiet_steps w w' a entry world knows (frame.retired ∙ fault_retired a fault w.retired) quiet does)
+
+still_none : (p : Pair) → EntryDoes None p p
+still_none p key = refl
+
+still_fault : (p : Pair) → EntryDoes (Some fault_entry) p p
+still_fault p = (λ key. refl, refl)
+
+fault_turn : (w w' : WorldState) (caller : ℕ) (a a' : Actor) (entry : Option NewEntry) → IsWorld w → Knows w a → IsFramed w a (Err StoreFault) w' → TakesTurn (stage_of w) caller a (Err StoreFault) entry (stage_of w') a' → KeptAndTurned w caller a (Err StoreFault) entry w' a'
+fault_turn w w' caller a a' entry world knows frame takes =
     let m = takes.moves in
-    let same = same_world w w' caller a a' (Err StoreFault) frame takes in
-    let quiet = failed_quiet w w' m.0.side m.0.ask m.2.on in
-    record {
-      world = fault_world w w' caller world same quiet (moved (stage_of w) (stage_of w') a a' (Err StoreFault) m) (failed_rose w w' m.0.side m.0.ask m.2.on) takes.entries;
-      turns = ended_turn w w' caller a a' StoreFault same takes quiet (m.3 ∙ ended_client a);
-    }
+    subst (λ x. KeptAndTurned w caller a (Err StoreFault) entry w' x) (sym m.4) (subst (λ x. KeptAndTurned w caller a (Err StoreFault) x w' (after_fault a)) (sym m.3)
+    (let t = subst (λ x. TakesTurn (stage_of w) caller a (Err StoreFault) x (stage_of w') (after_fault a)) m.3 (subst (λ x. TakesTurn (stage_of w) caller a (Err StoreFault) entry (stage_of w') x) m.4 takes) in
+    let same = same_world w w' caller a (after_fault a) (Err StoreFault) (Some fault_entry) frame t in
+    quiet_turn w w' caller a StoreFault (Some fault_entry) world knows frame (failed_quiet w w' m.0.side m.0.ask m.2.on)
+    (counted_fault w w' world same (moved (stage_of w) (stage_of w') a (after_fault a) (Err StoreFault) (Some fault_entry) t.moves) (failed_rose w w' m.0.side m.0.ask m.2.on) t.adds.fault_entries)
+    still_fault t))
 
-full_turn : (w w' : WorldState) (caller : ℕ) (a a' : Actor) → IsWorld w → IsFramed w w' → TakesTurn (stage_of w) caller a (Err HistoryFull) (stage_of w') a' → KeptAndTurned w caller a (Err HistoryFull) w' a'
-full_turn w w' caller a a' world frame takes =
+none_turn : (w w' : WorldState) (caller : ℕ) (a a' : Actor) (fault : TurnFault) (entry : Option NewEntry) → IsWorld w → Knows w a → IsFramed w a (Err fault) w' → IsQuiet w w' → entry ≡ None → a' ≡ after_fault a
+    → TakesTurn (stage_of w) caller a (Err fault) entry (stage_of w') a' → KeptAndTurned w caller a (Err fault) entry w' a'
+none_turn w w' caller a a' fault entry world knows frame quiet none over takes =
+    subst (λ x. KeptAndTurned w caller a (Err fault) entry w' x) (sym over) (subst (λ x. KeptAndTurned w caller a (Err fault) x w' (after_fault a)) (sym none)
+    (let t = subst (λ x. TakesTurn (stage_of w) caller a (Err fault) x (stage_of w') (after_fault a)) none (subst (λ x. TakesTurn (stage_of w) caller a (Err fault) entry (stage_of w') x) over takes) in
+    let same = same_world w w' caller a (after_fault a) (Err fault) None frame t in
+    quiet_turn w w' caller a fault None world knows frame quiet
+    (counted_on w w' world same (moved (stage_of w) (stage_of w') a (after_fault a) (Err fault) None t.moves) t.adds.fault_entries)
+    still_none t))
+
+full_turn : (w w' : WorldState) (caller : ℕ) (a a' : Actor) (entry : Option NewEntry) → IsWorld w → Knows w a → IsFramed w a (Err HistoryFull) w' → TakesTurn (stage_of w) caller a (Err HistoryFull) entry (stage_of w') a' → KeptAndTurned w caller a (Err HistoryFull) entry w' a'
+full_turn w w' caller a a' entry world knows frame takes =
     let m = takes.moves in
-    let same = same_world w w' caller a a' (Err HistoryFull) frame takes in
-    let quiet : IsQuiet w w' = record { old = stays_same w.old_store w'.old_store m.0.old_store; new = stays_same w.new_store w'.new_store m.0.new_store } in
-    record {
-      world = quiet_world w w' world same quiet (moved (stage_of w) (stage_of w') a a' (Err HistoryFull) m) takes.entries;
-      turns = ended_turn w w' caller a a' HistoryFull same takes quiet (m.1 ∙ ended_client a);
-    }
+    none_turn w w' caller a a' HistoryFull entry world knows frame (record { old = stays_same w.old_store w'.old_store m.0.old_store; new = stays_same w.new_store w'.new_store m.0.new_store }) m.1 m.2 takes
 
-memory_turn : (w w' : WorldState) (caller : ℕ) (a a' : Actor) → IsWorld w → IsFramed w w' → TakesTurn (stage_of w) caller a (Err NoMemory) (stage_of w') a' → KeptAndTurned w caller a (Err NoMemory) w' a'
-memory_turn w w' caller a a' world frame takes = go (quiet_by takes.moves.0) where
-  same : IsSameWorld w w'
-  same = same_world w w' caller a a' (Err NoMemory) frame takes
-
+memory_turn : (w w' : WorldState) (caller : ℕ) (a a' : Actor) (entry : Option NewEntry) → IsWorld w → Knows w a → IsFramed w a (Err NoMemory) w' → TakesTurn (stage_of w) caller a (Err NoMemory) entry (stage_of w') a' → KeptAndTurned w caller a (Err NoMemory) entry w' a'
+memory_turn w w' caller a a' entry world knows frame takes = none_turn w w' caller a a' NoMemory entry world knows frame (quiet_by takes.moves.0) takes.moves.1 takes.moves.2 takes where
   quiet_by : NoCall (stage_of w) (stage_of w') ⊎ CalledInVain (stage_of w) a (stage_of w') → IsQuiet w w'
   quiet_by (inl none) = record { old = stays_same w.old_store w'.old_store none.old_store; new = stays_same w.new_store w'.new_store none.new_store }
   quiet_by (inr vain) = record { old = vain.old_same; new = vain.new_same }
 
-  go : IsQuiet w w' → KeptAndTurned w caller a (Err NoMemory) w' a'
-  go quiet = record {
-    world = quiet_world w w' world same quiet (moved (stage_of w) (stage_of w') a a' (Err NoMemory) takes.moves) takes.entries;
-    turns = ended_turn w w' caller a a' NoMemory same takes quiet (takes.moves.1 ∙ ended_client a);
-  }
-
 -- ---- turns that the stores answered
 
-apart_row : (f : Fact) (pk : List ℕ) (r : StoredRow) → Apart f (RowIs InOld pk r.rk r.props r.tag)
-apart_row (RowIs a b c d e) pk r = tt
-apart_row (Kept a b c) pk r = tt
-apart_row (Begun a) pk r = tt
-apart_row (There a) pk r = tt
-apart_row (Turned a b c) pk r = tt
-apart_row (Closed a b) pk r = tt
-apart_row (Moved a) pk r = tt
-apart_row (Epoch a b c) pk r = tt
-apart_row (Clean a b c) pk r = tt
-apart_row (Swept a) pk r = tt
-apart_row Retired pk r = tt
+-- an answer leaves no entry of a fault
+no_fault : (a a' : Actor) (answer : StoreReply) (progress : Progress) (entry : Option NewEntry) (count : ℕ) → ActorMoves a answer (record { progress = progress; entry = entry; after = a' }) → faults_after entry count ≡ count
+no_fault (Client (client.Batch call)) a' answer progress entry count moves = ap (λ (m : Move). faults_after m.entry count) moves.is ∙ by moves.said where
+  by : (said : BatchProgress) → faults_after (batch_move moves.to said).entry count ≡ count
+  by batch.More = refl
+  by (batch.Written tags) = refl
+  by (batch.Refused refusal) = refl
+no_fault (Client client.Ended) a' answer progress entry count moves = absurd moves
 
-apart_rows : (f : Fact) (pk : List ℕ) (rows : List StoredRow) → ApartFrom f (row_facts InOld pk rows)
-apart_rows f pk [] = tt
-apart_rows f pk (r ∷ rows) = (apart_row f pk r, apart_rows f pk rows)
-
-apart_place : (f : Fact) (pk : List ℕ) (place : Place) → ApartFrom f (place_facts pk place)
-apart_place f pk ReadOld = tt
-apart_place f pk (WriteOld rows) = apart_rows f pk rows
-apart_place f pk BirthOld = tt
-
--- a tag that old gave is given
-given_by_old : (p q : Pair) (tag : Tag) → q.old_number ≡ p.old_number → IsFresh p.old q.old p.old_number tag → IsGiven q tag
-given_by_old p q tag number fresh = inl (fresh.store_is ∙ sym number, fresh.within)
-
--- what is given stays given
-given_on : (p q : Pair) (tag : Tag) → StaysInOld p q → Grows [] p q → IsGiven p tag → IsGiven q tag
-given_on p q tag stays grows (inl old) = inl (old.0 ∙ sym stays.numbers.0, (let a = old.1 in let b = grows.old.counter in omega (arith, a, b)))
-given_on p q tag stays grows (inr (inl new)) = inr (inl (new.0 ∙ sym stays.numbers.1, subst (λ c. tag.n ≤ c) (sym (ap (λ c. c.counter) stays.new_same)) new.1))
-given_on p q tag stays grows (inr (inr below)) = inr (inr (subst (λ n. tag.store < n) (sym stays.numbers.0) below))
-
--- a fresh tag of old is none that was given
-not_given : (p q : Pair) (tag : Tag) → p.old_number ≢ p.new_number → IsFresh p.old q.old p.old_number tag → IsGiven p tag → ⊥
-not_given p q tag differ fresh (inl old) = (let a = old.1 in let b = fresh.above in absurd (omega (arith, a, b)))
-not_given p q tag differ fresh (inr (inl new)) = differ (sym fresh.store_is ∙ new.0)
-not_given p q tag differ fresh (inr (inr below)) = (let e = fresh.store_is in absurd (omega (arith, e, below)))
-
-in_all : (P : Tag → Type 0) (xs : List Tag) (x : Tag) → All P xs → Contains xs x → P x
-in_all P xs x all has = subst P has.2 (all has.0 x has.1)
-
--- the marker of a partition is in old or comes there
-at_use_old_on : (p q : Pair) → StaysInOld p q → IsAtUseOld p → IsAtUseOld q
-at_use_old_on p q stays at = record {
-  unsealed = stays.sealed ∙ at.unsealed;
-  markers = λ pk. elim (stays.markers pk) as (λ _. (old_state_at q pk ≡ NoOld) ⊎ (old_state_at q pk ≡ AtUseOld)) [
-    | inr born ↦ inr born
-    | inl same ↦ elim (at.markers pk) as (λ _. (old_state_at q pk ≡ NoOld) ⊎ (old_state_at q pk ≡ AtUseOld)) [ inl none ↦ inl (same ∙ none) | inr there ↦ inr (same ∙ there) ]
-  ];
-}
-
--- an applied batch is a legal next entry
-written_legal : (w : WorldState) (ops : List Op) (tags : List Tag) (p q : Pair) → p.old_number ≢ p.new_number → IsReplayed w p → IsWritten ops tags p q → IsTrueAtEnd (window_of w) (what.Batch ops tags)
-written_legal w ops tags p q differ h does = record {
-  accepted = sym (refusal_same ops (logical_table p) (table_now w) h.table) ∙ does.accepted;
-  each = does.each;
-  apart = does.apart;
-  fresh = λ k d l. record {
-    base = λ has. not_given p q _ differ (does.fresh k d l) (h.given_before _ has);
-    entries = λ has. not_given p q _ differ (does.fresh k d l) (in_all (IsGiven p) (all_tags w.history.entries) _ h.given_since has);
-  };
-  gone = gone_same (logical_table p) (table_now w) (zip ops tags) h.table does.gone;
-}
-
-written_grown : (w : WorldState) (ops : List Op) (tags : List Tag) (p q : Pair) (retired : Bool) (to : Place) → p.old_number ≢ p.new_number → IsReplayed w p
-    → BatchStep ops retired p (batch.Written tags) q to → Grown w p q (what.Batch ops tags)
-written_grown w ops tags p q retired to differ h step = record {
-  says = written_legal w ops tags p q differ h step.does;
-  sound = step.sound;
-  at_use_old = at_use_old_on p q step.stays h.at_use_old;
-  nothing_new = ap (λ c. c.rows) step.stays.new_same ∙ h.nothing_new;
-  table = λ key. step.does.table key ∙ applied_same ops tags (logical_table p) (table_now w) h.table key;
-  given = λ tag. given_on p q tag step.stays (step.grows []);
-  tags = λ k d l. given_by_old p q _ step.stays.numbers.0 (step.does.fresh k d l);
-  retired = λ r. absurd (let x : true ≡ false = sym (h.retired r).0 ∙ h.at_use_old.unsealed in cc);
-}
-
--- what the history is after a step of a batch
-step_replayed : (w w' : WorldState) (caller : ℕ) (ops : List Op) (said : BatchProgress) (p q : Pair) (retired : Bool) (to : Place) → p.old_number ≢ p.new_number → IsSameWorld w w'
-    → w'.history.entries ≡ entries_with w.history.entries caller (what_of ops (Ok (progress_of said))) → IsReplayed w p → BatchStep ops retired p said q to → IsReplayed w' q
-step_replayed w w' caller ops batch.More p q retired to differ same entries h step = subst (IsReplayed w') (sym step.does) (replay_stays w w' p same entries h)
-step_replayed w w' caller ops (batch.Refused refusal) p q retired to differ same entries h step =
-    let refused = sym (refusal_same ops (logical_table p) (table_now w) h.table) ∙ step.does.1 in
-    subst (IsReplayed w') (sym step.does.0) (replay_grows w w' p p caller (what.Refused ops) same entries h (still_grown w p (what.Refused ops) h (subst IsSome (sym refused) refl) refl refl))
-step_replayed w w' caller ops (batch.Written tags) p q retired to differ same entries h step =
-    replay_grows w w' p q caller (what.Batch ops tags) same entries h (written_grown w ops tags p q retired to differ h step)
-
--- the answer is the reference table's reply
-abbrev ReplyIs : WorldState → List Op → BatchProgress → Type 0
-ReplyIs w ops batch.More = Unit {0}
-ReplyIs w ops (batch.Written tags) = told.Written tags ≡ told.Written tags
-ReplyIs w ops (batch.Refused refusal) = told.Refused refusal ≡ refusal_reply (refusal_of ops (table_now w))
-
-step_replies : (w w' : WorldState) (ops : List Op) (said : BatchProgress) (p q : Pair) (retired : Bool) (to : Place) → IsReplayed w p → BatchStep ops retired p said q to → ReplyIs w ops said
-step_replies w w' ops batch.More p q retired to h step = tt
-step_replies w w' ops (batch.Written tags) p q retired to h step = refl
-step_replies w w' ops (batch.Refused refusal) p q retired to h step = ap refusal_reply (sym (sym (refusal_same ops (logical_table p) (table_now w) h.table) ∙ step.does.1))
-
-no_fault : (entries : List Entry) (caller : ℕ) (ops : List Op) (said : BatchProgress) → faults_in (entries_with entries caller (what_of ops (Ok (progress_of said)))) ≡ faults_in entries
-no_fault entries caller ops batch.More = refl
-no_fault entries caller ops (batch.Written tags) = (let x = faults_more entries (entry_of entries caller (what.Batch ops tags)) in omega (arith, x))
-no_fault entries caller ops (batch.Refused refusal) = (let x = faults_more entries (entry_of entries caller (what.Refused ops)) in omega (arith, x))
-
--- what the actor knows after the step, and that others' facts are apart from it
-known_after : (said : BatchProgress) (call to : Call) (p q : Pair) (retired after : Bool) → to.batch ≡ call.batch → after ≡ retired → BatchStep call.batch retired p said q to.place → AllHold q after (actor_facts (Client (batch_after said to)))
-known_after batch.More call to p q retired after same flag step = subst (λ r. AllHold q r (call_facts to)) (sym flag) (subst (λ ops. AllHold q retired (place_facts (partition_of ops) to.place)) (sym same) step.knows)
-known_after (batch.Written tags) call to p q retired after same flag step = tt
-known_after (batch.Refused refusal) call to p q retired after same flag step = tt
-
-apart_after : (f : Fact) (said : BatchProgress) (to : Call) → ApartFrom f (actor_facts (Client (batch_after said to)))
-apart_after f batch.More to = apart_place f (partition_of to.batch) to.place
-apart_after f (batch.Written tags) to = tt
-apart_after f (batch.Refused refusal) to = tt
-
-module _ (w w' : WorldState) (caller : ℕ) (call to : Call) (said : BatchProgress) (ask : StoreAsk) (answer : StoreReply)
-    (world : IsWorld w) (knows : Knows w (Client (client.Batch call))) (fits : CallFits call) (same : IsSameWorld w w')
-    (asks : Asks call.batch call.place ask) (one : OneCall (stage_of w) ask (Ok answer) (stage_of w')) (same_batch : to.batch ≡ call.batch) (absorbs : Absorbs call.batch call.place answer (Ok said) to.place) where
-  -- the step of the pair that is told
-  stepped : (a' b' : Contents) (k : Before w ask answer a' b') → BatchStep call.batch w.retired (pair_of w k.a k.b) said (pair_of w a' b') to.place
-  stepped a' b' k =
-      batch_law call.batch call.place to.place ask answer said (pair_of w k.a k.b) (pair_of w a' b') w.retired fits.batch fits.place
-      (at_pair w (IsReplayed w) k.a k.b k.old k.new world.replayed).sound (at_pair w (λ p. AllHold p w.retired (call_facts call)) k.a k.b k.old k.new knows) asks k.means absorbs
-
-  by_step : (P : Pair → Type 0) → ((a b a' b' : Contents) → w.old_store.told ≡ Some a → w.new_store.told ≡ Some b → BatchStep call.batch w.retired (pair_of w a b) said (pair_of w a' b') to.place → P (pair_of w a' b')) → ForPair w' P
-  by_step P f = for_pair w' P (λ a' b' ea eb.
-      let k = before w w' ask.side ask.ask answer a' b' ea eb one.on in
-      subst P (sym (same_pair w w' same a' b')) (f k.a k.b a' b' k.old k.new (stepped a' b' k)))
-
-  stores_differ : w.old_store.number ≢ w.new_store.number
-  stores_differ e = (let a = world.numbers.0 in let b = world.numbers.1 in absurd (omega (arith, a, b, e)))
-
-  step_world : w'.history.entries ≡ entries_with w.history.entries caller (what_of call.batch (Ok (progress_of said))) → IsWorld w'
-  step_world entries =
-      kept w w' world same
-      (by_step (IsReplayed w') (λ a b a' b' ea eb step. step_replayed w w' caller call.batch said (pair_of w a b) (pair_of w a' b') w.retired to.place stores_differ same entries (at_pair w (IsReplayed w) a b ea eb world.replayed) step))
-      (counted_on w w' world same (called w.old_store w.new_store w'.old_store w'.new_store ask.side ask.ask (Ok answer) one.on) (ap faults_in entries ∙ no_fault w.history.entries caller call.batch said))
-
-  step_keeps : KeepsApart w (call_facts call) w' (actor_facts (Client (batch_after said to)))
-  step_keeps f stands = by_step (λ p. Holds p w'.retired f × ApartFrom f (actor_facts (Client (batch_after said to)))) (λ a b a' b' ea eb step.
-      let was = at_pair w (λ p. Holds p w.retired f × ApartFrom f (call_facts call)) a b ea eb stands in (
-        fact_kept (call_facts call) (pair_of w a b) (pair_of w a' b') w.retired w'.retired (at_pair w (IsReplayed w) a b ea eb world.replayed).sound step.sound (step.grows (call_facts call)) (λ r. same.retired ∙ r) f was.0 was.1,
-        apart_after f said to,
-      ))
-
-  step_knows : Knows w' (Client (batch_after said to))
-  step_knows = by_step (λ p. AllHold p w'.retired (actor_facts (Client (batch_after said to)))) (λ a b a' b' ea eb step. known_after said call to (pair_of w a b) (pair_of w a' b') w.retired w'.retired same_batch same.retired step)
-
-  step_reply : ForPair w' (λ p. ReplyIs w call.batch said)
-  step_reply = by_step (λ p. ReplyIs w call.batch said) (λ a b a' b' ea eb step. step_replies w w' call.batch said (pair_of w a b) (pair_of w a' b') w.retired to.place (at_pair w (IsReplayed w) a b ea eb world.replayed) step)
-
--- the reply as the turn says it
-reply_at : (w w' : WorldState) (ops : List Op) (said : BatchProgress) → ForPair w' (λ p. ReplyIs w ops said) → RepliesAt w ops (Ok (progress_of said)) w'
-reply_at w w' ops batch.More h = tt
-reply_at w w' ops (batch.Written tags) h = h
-reply_at w w' ops (batch.Refused refusal) h = h
-
-answered_turn : (w w' : WorldState) (caller : ℕ) (call to : Call) (said : BatchProgress) (ask : StoreAsk) (answer : StoreReply) → IsWorld w → Knows w (Client (client.Batch call)) → IsFramed w w'
-    → TakesTurn (stage_of w) caller (Client (client.Batch call)) (Ok (progress_of said)) (stage_of w') (Client (batch_after said to))
-    → Asks call.batch call.place ask → OneCall (stage_of w) ask (Ok answer) (stage_of w') → to.batch ≡ call.batch → Absorbs call.batch call.place answer (Ok said) to.place
-    → KeptAndTurned w caller (Client (client.Batch call)) (Ok (progress_of said)) w' (Client (batch_after said to))
-answered_turn w w' caller call to said ask answer world knows frame takes asks one batch absorbs =
-    let same = same_world w w' caller (Client (client.Batch call)) (Client (batch_after said to)) (Ok (progress_of said)) frame takes in
-    let fits = takes.fits in
-    record {
-      world = step_world w w' caller call to said ask answer world knows fits same asks one batch absorbs takes.entries;
-      turns = record {
-        fits = fits;
-        same = same;
-        tells = called_tells w w' ask.side ask.ask answer one.on;
-        full = takes.full;
-        moves = takes.moves;
-        entries = takes.entries;
-        replies = reply_at w w' call.batch said (step_reply w w' caller call to said ask answer world knows fits same asks one batch absorbs);
-        knows = step_knows w w' caller call to said ask answer world knows fits same asks one batch absorbs;
-        keeps = step_keeps w w' caller call to said ask answer world knows fits same asks one batch absorbs;
-      };
-    }
-
-ok_turn : (w w' : WorldState) (caller : ℕ) (a a' : Actor) (progress : Progress) → IsWorld w → Knows w a → IsFramed w w' → TakesTurn (stage_of w) caller a (Ok progress) (stage_of w') a' → KeptAndTurned w caller a (Ok progress) w' a'
-ok_turn w w' caller (Client client.Ended) a' progress world knows frame takes = absurd takes.moves.2
-ok_turn w w' caller (Client (client.Batch call)) a' progress world knows frame takes =
+ok_turn : (w w' : WorldState) (caller : ℕ) (a a' : Actor) (progress : Progress) (entry : Option NewEntry) → IsWorld w → Knows w a → IsFramed w a (Ok progress) w' → TakesTurn (stage_of w) caller a (Ok progress) entry (stage_of w') a' → KeptAndTurned w caller a (Ok progress) entry w' a'
+ok_turn w w' caller a a' progress entry world knows frame takes =
     let m = takes.moves in
-    let b : BatchMoves call m.1 progress a' = m.4 in
-    let takes' = subst (λ x. TakesTurn (stage_of w) caller (Client (client.Batch call)) (Ok progress) (stage_of w') x) b.after_is takes in
-    let takes'' = subst (λ x. TakesTurn (stage_of w) caller (Client (client.Batch call)) (Ok x) (stage_of w') (Client (batch_after b.said b.to))) b.progress_is takes' in
-    subst (λ x. KeptAndTurned w caller (Client (client.Batch call)) (Ok progress) w' x) (sym b.after_is)
-    (subst (λ x. KeptAndTurned w caller (Client (client.Batch call)) (Ok x) w' (Client (batch_after b.said b.to))) (sym b.progress_is)
-    (answered_turn w w' caller call b.to b.said m.0 m.1 world knows frame takes'' m.2 m.3 b.same b.absorbs))
+    stepped_turn w w' caller a a' (Ok progress) entry world frame (called_tells w w' m.0.side m.0.ask m.1 m.3.on)
+    (counted_on w w' world (same_world w w' caller a a' (Ok progress) entry frame takes) (moved (stage_of w) (stage_of w') a a' (Ok progress) entry m) (takes.adds.fault_entries ∙ no_fault a a' m.1 progress entry w.fault_entries m.4))
+    takes (λ a1 b1 ea eb. step m.0 m.1 a1 b1 m.2 m.4 (before w w' m.0.side m.0.ask m.1 a1 b1 ea eb m.3.on)) where
+      step : (ask : StoreAsk) (answer : StoreReply) (a1 b1 : Contents) → ActorAsks a ask → ActorMoves a answer (record { progress = progress; entry = entry; after = a' }) → Before w ask answer a1 b1
+          → (a0 : Contents) × (b0 : Contents) × (w.old_store.told ≡ Some a0) × (w.new_store.told ≡ Some b0) × ToldStep w w' a a' entry (pair_of w a0 b0) (pair_of w a1 b1)
+      step ask answer a1 b1 asks moves k =
+          let h = at_pair w (IsReplayed w) k.a k.b k.old k.new world.replayed in
+          let knows_of = at_pair w (λ p. AreTrueOf w p (actor_facts a)) k.a k.b k.old k.new knows in (
+            k.a,
+            k.b,
+            k.old,
+            k.new,
+            record {
+              replayed = h;
+              step = subst (λ r. ActorStep (actor_facts a) (actor_facts a') w.retired r (EntryDoes entry) (pair_of w k.a k.b) (pair_of w a1 b1)) (sym frame.retired)
+                  (actor_step a ask answer (record { progress = progress; entry = entry; after = a' }) (pair_of w k.a k.b) (pair_of w a1 b1) w.retired takes.fits asks k.means moves h.sound knows_of);
+              unmoved = actor_unmoved a ask answer (record { progress = progress; entry = entry; after = a' }) (pair_of w k.a k.b) (pair_of w a1 b1) w.retired takes.fits asks k.means moves h.sound knows_of h.unmoved;
+            },
+          )
 
 -- a turn on the stage of a world is a turn of the world
-pub turned : (w w' : WorldState) (caller : ℕ) (a a' : Actor) (r : Result Progress TurnFault) → IsWorld w → Knows w a → IsFramed w w' → TakesTurn (stage_of w) caller a r (stage_of w') a' → KeptAndTurned w caller a r w' a'
-turned w w' caller a a' (Ok progress) world knows frame takes = ok_turn w w' caller a a' progress world knows frame takes
-turned w w' caller a a' (Err StoreFault) world knows frame takes = fault_turn w w' caller a a' world frame takes
-turned w w' caller a a' (Err HistoryFull) world knows frame takes = full_turn w w' caller a a' world frame takes
-turned w w' caller a a' (Err NoMemory) world knows frame takes = memory_turn w w' caller a a' world frame takes
+pub turned : (w w' : WorldState) (caller : ℕ) (a a' : Actor) (r : Result Progress TurnFault) (entry : Option NewEntry) → IsWorld w → Knows w a → IsFramed w a r w' → TakesTurn (stage_of w) caller a r entry (stage_of w') a' → KeptAndTurned w caller a r entry w' a'
+turned w w' caller a a' (Ok progress) entry world knows frame takes = ok_turn w w' caller a a' progress entry world knows frame takes
+turned w w' caller a a' (Err StoreFault) entry world knows frame takes = fault_turn w w' caller a a' entry world knows frame takes
+turned w w' caller a a' (Err HistoryFull) entry world knows frame takes = full_turn w w' caller a a' entry world knows frame takes
+turned w w' caller a a' (Err NoMemory) entry world knows frame takes = memory_turn w w' caller a a' entry world knows frame takes
 
 -- the world of a stage, with what turns leave alone
-abbrev pub world_of : Stage → List Entity → ℕ → Bool → ℕ → ℕ → WorldState
-world_of c base generation retired old_faults new_faults = record {
+abbrev pub world_of : Stage → List Entity → ℕ → Bool → ℕ → WorldState
+world_of c base generation retired opened_faults = record {
   old_store = c.old_store;
   new_store = c.new_store;
   base = base;
-  history = c.history;
+  history = c.log.history;
+  numbers = c.log.numbers;
+  fault_entries = c.log.fault_entries;
   calls = c.calls;
   generation = generation;
   retired = retired;
-  old_faults = old_faults;
-  new_faults = new_faults;
+  opened_faults = opened_faults;
 }
 
-pub turn_at : (v : WorldState) (c c' : Stage) (base : List Entity) (generation : ℕ) (retired : Bool) (old_faults new_faults : ℕ) (caller : ℕ) (a a' : Actor) (r : Result Progress TurnFault)
-    → world_of c base generation retired old_faults new_faults ≡ v → IsWorld (world_of c base generation retired old_faults new_faults) → Knows v a → TakesTurn c caller a r c' a'
-    → IsWorld (world_of c' base generation retired old_faults new_faults) × Turns v caller a r (world_of c' base generation retired old_faults new_faults) a'
-turn_at v c c' base generation retired old_faults new_faults caller a a' r view world knows takes =
-    let w = world_of c base generation retired old_faults new_faults in
-    let w' = world_of c' base generation retired old_faults new_faults in
-    let t = turned w w' caller a a' r world (subst (λ x. Knows x a) (sym view) knows) (record { base = refl; generation = refl; retired = refl; old_faults = refl; new_faults = refl }) takes in
-    (t.world, subst (λ x. Turns x caller a r w' a') view t.turns)
+-- while clients alone take turns, what the code leaves alone is whether the world is retired, too
+client_retired : (a : Actor) (r : Result Progress TurnFault) (retired : Bool) → retired ≡ retired_by a r retired
+client_retired (Client call) r retired = refl
+
+pub turn_at : (v : WorldState) (c c' : Stage) (base : List Entity) (generation : ℕ) (retired : Bool) (opened_faults : ℕ) (caller : ℕ) (a a' : Actor) (r : Result Progress TurnFault)
+    → world_of c base generation retired opened_faults ≡ v → IsWorld (world_of c base generation retired opened_faults) → Knows v a → TakesSomeTurn c caller a r c' a'
+    → IsWorld (world_of c' base generation retired opened_faults) × Turned v caller a r (world_of c' base generation retired opened_faults) a'
+turn_at v c c' base generation retired opened_faults caller a a' r view world knows takes =
+    let w = world_of c base generation retired opened_faults in
+    let w' = world_of c' base generation retired opened_faults in
+    let t = turned w w' caller a a' r takes.0 world (subst (λ x. Knows x a) (sym view) knows) (record { base = refl; generation = refl; retired = client_retired a r retired; opened_faults = refl }) takes.1 in
+    (t.world, (takes.0, subst (λ x. Turns x caller a r takes.0 w' a') view t.turns))

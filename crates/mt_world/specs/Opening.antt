@@ -1,5 +1,5 @@
 -- Opening two stores as a world.
-use Rattle.std.specs.Prelude.{◌≡◌, ◌⊎◌, ℕ, ◌≤◌, Bool, true, false, not, ◌&&◌, is_none, [], Result, Ok, Err}
+use Rattle.std.specs.Prelude.{◌≡◌, ◌⊎◌, ℕ, ◌+◌, ◌≤◌, Bool, true, false, not, ◌&&◌, is_none, [], Result, Ok, Err}
 use Rattle.mt_chain.specs.declared.query.Next.{Next}
 use Rattle.mt_chain.specs.StoreCall.{Contents}
 use Rattle.mt_chain.specs.Store.{Store, Rose, Onward, Same}
@@ -29,22 +29,23 @@ pub record Opened (s s' : Store) (entries : ℕ) (w : WorldState) : Type 0 where
   pub first : w.history.first ≡ 0
   pub nothing : w.history.entries ≡ []
   pub limit : w.history.limit ≡ entries
+  pub numbers : w.numbers ≡ []
+  pub fault_entries : w.fault_entries ≡ 0
   pub calls : w.calls ≡ 0
   pub generation : w.generation ≡ 1
   pub retired : w.retired ≡ false
-  pub old_faults : w.old_faults ≡ w.old_store.faults
-  pub new_faults : w.new_faults ≡ w.new_store.faults
+  pub opened_faults : w.opened_faults ≡ w.old_store.faults + w.new_store.faults
 
 -- the store of that number has a row or is sealed, and the one before it has none and is not
 abbrev pub IsFirstNotFresh : ℕ → Store → Store → Store → Store → Type 0
 IsFirstNotFresh store s s' t t' = ((store ≡ 0) × Onward (λ before after. IsFresh after → ⊥) s.told t.told)
     ⊎ ((store ≡ 1) × Onward (λ before after. IsFresh after) s.told t.told × Onward (λ before after. IsFresh after → ⊥) s'.told t'.told)
 
--- why: the first store that is not empty; a fault of a store only where its count rose; want of memory is free
+-- why: the first store that is not empty; a fault of a store only where its count rose; want of memory only where none rose
 abbrev pub Refused : Store → Store → OpenFault → Store → Store → Type 0
 Refused s s' (NotEmpty store) t t' = IsFirstNotFresh store s s' t t'
 Refused s s' StoreFault t t' = Rose s.faults t.faults ⊎ Rose s'.faults t'.faults
-Refused s s' NoMemory t t' = Unit {0}
+Refused s s' NoMemory t t' = (t.faults ≡ s.faults) × (t'.faults ≡ s'.faults)
 
 -- both stores come back as they are
 pub record ComesBack (s s' : Store) (fault : OpenFault) (t t' : Store) : Type 0 where
@@ -56,13 +57,13 @@ pub record ComesBack (s s' : Store) (fault : OpenFault) (t t' : Store) : Type 0 
 abbrev pub shows_nothing : Next → Bool
 shows_nothing next = is_none next.pk && not next.sealed
 
--- a store was asked whether it has no row and is not sealed
+-- a store was asked whether it has no row and is not sealed; its count of faults rose only where it failed
 abbrev pub Looks : Store → Result Bool OpenFault → Store → Type 0
-Looks s (Ok true) t = Stays s t × Onward (λ before after. IsFresh after) s.told t.told
-Looks s (Ok false) t = Stays s t × Onward (λ before after. IsFresh after → ⊥) s.told t.told
+Looks s (Ok true) t = Stays s t × (t.faults ≡ s.faults) × Onward (λ before after. IsFresh after) s.told t.told
+Looks s (Ok false) t = Stays s t × (t.faults ≡ s.faults) × Onward (λ before after. IsFresh after → ⊥) s.told t.told
 Looks s (Err (NotEmpty store)) t = ⊥
 Looks s (Err StoreFault) t = Stays s t × Rose s.faults t.faults
-Looks s (Err NoMemory) t = Stays s t
+Looks s (Err NoMemory) t = Stays s t × (t.faults ≡ s.faults)
 
 -- both stores were asked, and may be opened or come back
 abbrev pub Checks : Store → Store → Result (Unit {0}) OpenFault → Store → Store → Type 0

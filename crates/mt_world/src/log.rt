@@ -1,10 +1,10 @@
 //! A history with the number of each caller's next entry.
-ghost use Rattle.std.specs.Prelude.{◌≡◌, ◌≤◌, ◌-◌, ◌++◌, ◌∷◌, [], ℕ, All, IsTrue, IsSome, OnOk};
+ghost use Rattle.std.specs.Prelude.{◌≡◌, ◌≤◌, ◌-◌, ◌++◌, ◌∷◌, [], ℕ, IsTrue, IsSome, IfSome, OnOk, length, option_copied};
 ghost use Rattle.std.specs.Map.{count_at};
 ghost use Rattle.mt_history.specs.Weight.{weight};
-ghost use Rattle.mt_history.specs.Kept.{has_room};
-ghost use Rattle.mt_world.specs.Worlds.{next_number};
-ghost use Rattle.mt_world.specs.Logs.{number_in, IsTagged, IsReady};
+ghost use Rattle.mt_history.specs.Kept.{has_room, entry_at};
+ghost use Rattle.mt_world.specs.Worlds.{number_in, next_number, entry_of};
+ghost use Rattle.mt_world.specs.Logs.{IsLog, IsTagged, IsReady, Reserves, number_of_next, faults_with};
 
 use mt_history::{Entry, History, What};
 use mt_model::NoMemory;
@@ -17,20 +17,23 @@ use std::marker::Model;
 pub struct Log {
     history: History,
     numbers: BTreeMap<u32, u64, Global>,
+
+    /// How many entries of failed store calls were ever made. The count stands still at its end.
+    fault_entries: u64,
 }
 
 impl Model for Log {
     ghost use Rattle.std.specs.Coded.{codes};
-    ghost use Rattle.mt_filter.specs.contracts.filter.Filter as filter;
+    ghost use Rattle.mt_history.specs.contracts.history.History as entries_of;
     ghost use Rattle.mt_world.specs.Logs.{Log as State, IsLog};
 
     ghost Value = { State };
 
-    ghost coded = { Prim.hlevel (codes, filter.the_row.coded) };
+    ghost coded = { Prim.hlevel (codes, entries_of.the_row.coded) };
 
-    ghost view = { λ l. record { history = l.history; numbers = l.numbers.entries } };
+    ghost view = { λ l. record { history = l.history; numbers = l.numbers.entries; fault_entries = l.fault_entries } };
 
-    ghost invariant = { λ l. IsLog (record { history = l.history; numbers = l.numbers.entries }) };
+    ghost invariant = { λ l. IsLog (record { history = l.history; numbers = l.numbers.entries; fault_entries = l.fault_entries }) };
 }
 
 /// Holds the number of a caller's next entry in hand: that of a caller without entries is 0.
@@ -47,6 +50,20 @@ fn hold_number(numbers: &mut BTreeMap<u32, u64, Global>, caller: u32) -> Result<
     }
 }
 
+/// How many entries of failed store calls were made, with one that says this.
+fn count_with(what: &What, count: u64) -> u64
+    ensures { result ≡ faults_with what.now count }
+{
+    match what {
+        What::Fault => count.saturating_add(1),
+        What::Batch { .. }
+        | What::Refused { .. }
+        | What::Query { .. }
+        | What::Scan { .. }
+        | What::Gap { .. } => count,
+    }
+}
+
 impl Log {
     /// An empty log that may have so many entries, 1 to 1,048,576. It takes no memory.
     pub fn new(alloc: Global, entries: u64) -> Log
@@ -55,10 +72,13 @@ impl Log {
         ensures first { result.history.first ≡ 0 }
         ensures entries { result.history.entries ≡ [] }
         ensures limit { result.history.limit ≡ entries }
+        ensures numbers { result.numbers ≡ [] }
+        ensures faults { result.fault_entries ≡ 0 }
     {
         Log {
             history: History::new(alloc, entries),
             numbers: BTreeMap::new(alloc),
+            fault_entries: 0,
         }
     }
 
@@ -68,17 +88,25 @@ impl Log {
         &self.history
     }
 
-    /// The entries in order. Each that tells of an applied batch has a tag for each operation.
-    pub fn entries(&self) -> &[Entry]
-        ensures value { result.now ≡ self.now.history.entries }
-        ensures tagged { All (λ e. IsTagged e.what) self.now.history.entries }
+    /// How many entries there are.
+    pub fn len(&self) -> u64
+        ensures value { result ≡ length self.now.history.entries }
+        ensures valid { IsLog self.now }
     {
-        self.history.entries()
+        self.history.len()
+    }
+
+    /// The entry at a place. One that tells of an applied batch has a tag for each operation.
+    pub fn get(&self, at: u64) -> Option<&Entry>
+        ensures value { option_copied result ≡ entry_at self.now.history at }
+        ensures tagged { IfSome (option_copied result) (λ e. IsTagged e.what) }
+    {
+        self.history.get(at)
     }
 
     /// Takes the memory for one more entry of a caller. The one error is want of memory.
     pub fn reserve(&mut self, caller: u32) -> Result<(), NoMemory>
-        ensures same { self.new.history ≡ record self.old.history { spare = self.new.history.spare } }
+        ensures same { Reserves self.old self.new }
         ensures ok { OnOk result (IsReady self.new caller) }
     {
         hold_number(&mut self.numbers, caller)?;
@@ -90,8 +118,11 @@ impl Log {
         requires ready { IsReady self.old caller }
         requires room { IsTrue (has_room self.old.history (weight what)) }
         requires tagged { IsTagged what }
-        ensures { self.new.history ≡ record self.old.history { entries = self.old.history.entries ++ (record { caller = caller; number = next_number self.old.history.entries caller; what = what }) ∷ []; spare = self.old.history.spare - 1 } }
+        ensures history { self.new.history ≡ record self.old.history { entries = self.old.history.entries ++ entry_of self.old.numbers caller what ∷ []; spare = self.old.history.spare - 1 } }
+        ensures numbers { (other : ℕ) → next_number self.new.numbers other ≡ number_of_next self.old.numbers caller other }
+        ensures faults { self.new.fault_entries ≡ faults_with what self.old.fault_entries }
     {
+        self.fault_entries = count_with(&what, self.fault_entries);
         let Some(next) = self.numbers.get_mut(&caller) else {
             unreachable!();
         };

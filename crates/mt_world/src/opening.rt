@@ -52,7 +52,8 @@ fn is_fresh<K: Keeper>(alloc: Global, store: &mut K) -> Result<bool, OpenFault>
     match store.next_partition(alloc, &begin) {
         Ok(next) => Ok(is_nothing(&next)),
         Err(KeepFault::NoMemory) => Err(OpenFault::NoMemory),
-        Err(_) => Err(OpenFault::StoreFault),
+        Err(KeepFault::Failed) => Err(OpenFault::StoreFault),
+        Err(KeepFault::Unmet { .. }) | Err(KeepFault::Sealed) => unreachable!(),
     }
 }
 

@@ -1,9 +1,11 @@
 //! Two stores and the log of what happened to them: what turns change.
-ghost use Rattle.std.specs.Prelude.{◌≡◌, ◌≤◌, [], true, false, IfOk, IfErr, OnOk, All, IsTrue, length, vec_capacity, Result, Ok, Err};
+ghost use Rattle.std.specs.Prelude.{◌≡◌, ◌≤◌, [], true, false, IfOk, IfErr, OnOk, IsTrue, length, vec_capacity, Result, Ok, Err};
 ghost use Rattle.mt_chain.specs.Asks.{CanAsk, FitsAsk};
 ghost use Rattle.mt_batch_plan.specs.Calls.{Asks, is_write};
-ghost use Rattle.mt_world.specs.Logs.{IsTagged, IsReady};
-ghost use Rattle.mt_world.specs.Turns.{CallsOn, CanStep, TakesTurn, Answered, said_by, left_by};
+ghost use Rattle.mt_world.specs.Logs.{IsReady, Reserves};
+ghost use Rattle.mt_world.specs.Moves.{CanStep};
+ghost use Rattle.mt_world.specs.Turns.{CallsOn, TakesSomeTurn};
+ghost use Rattle.mt_world.specs.Steps.{Answered, said_by, left_by};
 ghost use Rattle.mt_chain.specs.Batch.{batch_weight};
 ghost use Rattle.mt_history.specs.Kept.{has_room};
 ghost use Rattle.mt_chain.specs.declared.ask.StoreAsk.{StoreAsk};
@@ -12,7 +14,7 @@ use crate::actor::{Actor, Answer, ClientCall, Progress, TurnFault};
 use crate::log::Log;
 use mt_batch_plan::{BatchCall, BatchProgress};
 use mt_chain::{CallFault, Keeper, Side, StoreAsk, StoreReply, Tags};
-use mt_history::{Entry, What};
+use mt_history::What;
 use mt_model::{NoMemory, Tag};
 use std::alloc::Global;
 use std::marker::Model;
@@ -31,14 +33,14 @@ pub struct Stage<K: Keeper> {
 
 impl<K: Keeper> Model for Stage<K> {
     ghost use Rattle.std.specs.Coded.{codes};
-    ghost use Rattle.mt_filter.specs.contracts.filter.Filter as filter;
+    ghost use Rattle.mt_history.specs.contracts.history.History as entries_of;
     ghost use Rattle.mt_world.specs.Turns.{Stage as State};
 
     ghost Value = { State };
 
-    ghost coded = { Prim.hlevel (codes, filter.the_row.coded) };
+    ghost coded = { Prim.hlevel (codes, entries_of.the_row.coded) };
 
-    ghost view = { λ s. record { old_store = K.state s.old_store; new_store = K.state s.new_store; history = s.log.history; calls = s.calls } };
+    ghost view = { λ s. record { old_store = K.state s.old_store; new_store = K.state s.new_store; log = s.log; calls = s.calls } };
 }
 
 /// Room for a copy of the tags that a batch is answered, where the call is about to write.
@@ -74,7 +76,7 @@ fn prepare(
     caller: u32,
     call: &BatchCall,
 ) -> Result<Prepared, NoMemory>
-    ensures same { log.new.history ≡ record log.old.history { spare = log.new.history.spare } }
+    ensures same { Reserves log.old log.new }
     ensures ready { OnOk result (IsReady log.new caller) }
     ensures asks { IfOk result (λ p. Asks call.now.batch call.now.place p.0) }
     ensures can { IfOk result (λ p. CanAsk p.0.ask) }
@@ -104,10 +106,10 @@ fn answer(
     requires light { IsTrue (has_room log.old.history (batch_weight call.batch)) }
     requires empty { room.items ≡ [] }
     requires room { is_write call.place ≡ true → length call.batch ≤ vec_capacity room }
-    ensures { Answered call reply log.old.history caller result log.new.history }
+    ensures { Answered call reply log.old caller result log.new }
 {
     match call.absorb(alloc, reply) {
-        Err(_) => Err(TurnFault::NoMemory),
+        Err(NoMemory) => Err(TurnFault::NoMemory),
         Ok(BatchProgress::More) => Ok((Progress::More, ClientCall::Batch(call))),
         Ok(BatchProgress::Written(tags)) => {
             let copy = copy_tags(&tags, room);
@@ -149,18 +151,16 @@ fn call_store<K: Keeper>(
 }
 
 impl<K: Keeper> Stage<K> {
-    /// The entries of the log, in order. Each that tells of an applied batch has a tag for each
-    /// operation.
-    pub fn entries(&self) -> &[Entry]
-        ensures value { result.now ≡ self.now.history.entries }
-        ensures tagged { All (λ e. IsTagged e.what) self.now.history.entries }
+    /// What happened to the stores.
+    pub fn log(&self) -> &Log
+        ensures { result.now ≡ self.now.log }
     {
-        self.log.entries()
+        &self.log
     }
 
     /// One turn of a batch call: at most one store call, and then at most one entry.
     fn batch_turn(&mut self, alloc: Global, caller: u32, call: BatchCall) -> Result<Step, TurnFault>
-        ensures { TakesTurn self.old caller (Actor.Client (ClientCall.Batch call)) (said_by result) self.new (left_by result) }
+        ensures { TakesSomeTurn self.old caller (Actor.Client (ClientCall.Batch call)) (said_by result) self.new (left_by result) }
     {
         if !self.log.history().room_for(call.batch().weight()) {
             return Err(TurnFault::HistoryFull);
@@ -188,7 +188,7 @@ impl<K: Keeper> Stage<K> {
         actor: &mut Actor,
     ) -> Result<Progress, TurnFault>
         requires { CanStep actor.old }
-        ensures { TakesTurn self.old caller actor.old result self.new actor.new }
+        ensures { TakesSomeTurn self.old caller actor.old result self.new actor.new }
     {
         let Actor::Client(slot) = actor;
         match mem::replace(slot, ClientCall::Ended) {

@@ -137,7 +137,10 @@ fn kind(what: &What) -> &'static str {
 /// The entries, as kind, caller and number.
 fn entry_text(alloc: Global, history: &History) -> Result<String, Fail> {
     let mut text = String::new(alloc);
-    for entry in history.entries() {
+    for at in 0..history.len() {
+        let Some(entry) = history.get(at) else {
+            return Err(Fail::new("an entry is not kept"));
+        };
         let kind = kind(&entry.what);
         let (caller, number) = (entry.caller, entry.number);
         text.push_str(format!(in alloc; "{kind} {caller}.{number} ")?.as_str())?;

@@ -3,7 +3,9 @@ ghost use Rattle.std.specs.Prelude.{◌≡◌, ◌≤◌, IfOk, IfErr};
 ghost use Rattle.mt_world.specs.Worlds.{IsWorld};
 ghost use Rattle.mt_world.specs.Replays.{CountsRows};
 ghost use Rattle.mt_world.specs.Opening.{Opened, ComesBack};
-ghost use Rattle.mt_world.specs.Turns.{CanStep, Knows, Turns, IsCallOf, EndsCall, Answers, asked_by};
+ghost use Rattle.mt_world.specs.Moves.{CanStep, IsCallOf};
+ghost use Rattle.mt_world.specs.Turns.{Knows, Turned};
+ghost use Rattle.mt_world.specs.WholeCalls.{EndsCall};
 
 use crate::actor::{Actor, Answer, ClientCall, Progress, Request, TurnFault};
 use crate::log::Log;
@@ -42,35 +44,38 @@ pub struct World<K: Keeper> {
 
 impl<K: Keeper> Model for World<K> {
     ghost use Rattle.std.specs.Coded.{codes};
-    ghost use Rattle.mt_filter.specs.contracts.filter.Filter as filter;
+    ghost use Rattle.std.specs.Prelude.{◌+◌};
+    ghost use Rattle.mt_history.specs.contracts.history.History as entries_of;
     ghost use Rattle.mt_world.specs.Worlds.{WorldState, IsWorld};
 
     ghost Value = { WorldState };
 
-    ghost coded = { Prim.hlevel (codes, filter.the_row.coded) };
+    ghost coded = { Prim.hlevel (codes, entries_of.the_row.coded) };
 
     ghost view = { λ w. record {
       old_store = w.stage.old_store;
       new_store = w.stage.new_store;
       base = w.base;
-      history = w.stage.history;
+      history = w.stage.log.history;
+      numbers = w.stage.log.numbers;
+      fault_entries = w.stage.log.fault_entries;
       calls = w.stage.calls;
       generation = w.generation;
       retired = w.retired;
-      old_faults = (K.state w.old_opened.value).faults;
-      new_faults = (K.state w.new_opened.value).faults;
+      opened_faults = (K.state w.old_opened.value).faults + (K.state w.new_opened.value).faults;
     } };
 
     ghost invariant = { λ w. IsWorld (record {
       old_store = w.stage.old_store;
       new_store = w.stage.new_store;
       base = w.base;
-      history = w.stage.history;
+      history = w.stage.log.history;
+      numbers = w.stage.log.numbers;
+      fault_entries = w.stage.log.fault_entries;
       calls = w.stage.calls;
       generation = w.generation;
       retired = w.retired;
-      old_faults = (K.state w.old_opened.value).faults;
-      new_faults = (K.state w.new_opened.value).faults;
+      opened_faults = (K.state w.old_opened.value).faults + (K.state w.new_opened.value).faults;
     }) };
 }
 
@@ -143,7 +148,7 @@ impl<K: Keeper> World<K> {
     ) -> Result<Progress, TurnFault>
         requires ready { CanStep actor.old }
         requires knows { Knows self.old actor.old }
-        ensures turns { Turns self.old caller actor.old result self.new actor.new }
+        ensures turns { Turned self.old caller actor.old result self.new actor.new }
         ensures world { IsWorld self.old }
     {
         self.stage.turn(alloc, caller, actor)
@@ -159,8 +164,7 @@ impl<K: Keeper> World<K> {
     ) -> Result<Answer, TurnFault>
         requires ready { CanStep (Actor.Client call) }
         requires knows { Knows self.old (Actor.Client call) }
-        ensures ends { EndsCall self.old caller (Actor.Client call) result self.new }
-        ensures answers { Answers self.old caller (asked_by (Actor.Client call)) result self.new }
+        ensures { EndsCall self.old caller (Actor.Client call) result self.new }
     {
         let mut actor = Actor::Client(call);
         loop {
@@ -208,13 +212,14 @@ impl<K: Keeper> World<K> {
     pub fn rows(&self, alloc: Global) -> Result<u64, NoMemory>
         ensures { IfOk result (CountsRows self.now) }
     {
-        count_rows(alloc, &self.base, self.stage.entries())
+        count_rows(alloc, &self.base, self.stage.log())
     }
 
     /// The stores, as they are.
     pub fn into_stores(self) -> Stores<K>
         ensures old { K.state result.old ≡ self.old_store }
         ensures new { K.state result.new ≡ self.new_store }
+        ensures world { IsWorld self }
     {
         Stores {
             old: self.stage.old_store,

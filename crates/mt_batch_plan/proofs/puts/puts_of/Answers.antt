@@ -1,7 +1,7 @@
 use Rattle.std.proofs.Common.{◌≡◌, None, Option, ap, sym, subst, ◌∙◌, arith, get_or, option_map, option_copied}
 use Rattle.mt_chain.specs.declared.row.StoredRow.{StoredRow}
 use Rattle.mt_chain.specs.Effect.{op_key, cause_on}
-use Rattle.mt_meta.specs.Facts.{row_in}
+use Rattle.mt_chain.specs.Rows.{row_in}
 use Rattle.mt_batch_plan.specs.Calls.{kept_row, put_on}
 use Rattle.mt_batch_plan.specs.Plans.{as_seen}
 use Rattle.mt_batch_plan.proofs.EffectLaws.{accepted_at}
@@ -20,8 +20,8 @@ pub put_on-requires : goal.put_on-requires
 put_on-requires c =
     let op = c.index-ops-index.result in
     let below = index_below c.args.ops.now c.args.order.now c.loop-index.index-index 0 c.requires.order c.loop-index-test.true in
-    let read : option_copied c.row_named-row.result ≡ row_in c.args.rows.now (op_key op).rk =
-    c.row_named-row.ensures ∙ ap (row_in c.args.rows.now) (c.as_str.ensures ∙ ap (λ k. k.rk) c.key.ensures) in
+    let read : option_copied c.get-row.result ≡ row_in c.args.rows.now (op_key op).rk =
+    c.get-row.ensures ∙ ap (row_in c.args.rows.now) (c.as_str.ensures ∙ ap (λ k. k.rk) c.key.ensures) in
     subst (λ (row : Option StoredRow). cause_on op (as_seen row) ≡ None) (sym read)
     (accepted_at c.args.ops.now c.args.rows.now (get_or c.args.order.now c.loop-index.index-index 0) op c.requires.accepted below c.index-ops-index.is)
 
@@ -30,8 +30,8 @@ loop-index-preserved c =
     let op = c.index-ops-index.result in
     let at = get_or c.args.order.now c.loop-index.index-index 0 in
     let below = index_below c.args.ops.now c.args.order.now c.loop-index.index-index 0 c.requires.order c.loop-index-test.true in
-    let read : option_copied c.row_named-row.result ≡ row_in c.args.rows.now (op_key op).rk =
-    c.row_named-row.ensures ∙ ap (row_in c.args.rows.now) (c.as_str.ensures ∙ ap (λ k. k.rk) c.key.ensures) in
+    let read : option_copied c.get-row.result ≡ row_in c.args.rows.now (op_key op).rk =
+    c.get-row.ensures ∙ ap (row_in c.args.rows.now) (c.as_str.ensures ∙ ap (λ k. k.rk) c.key.ensures) in
     c.in_ok-push-2.ensures.items
     ∙ puts_more c.args.ops.now c.args.order.now c.args.rows.now c.args.first c.loop-index.index-index op _ c.loop-index.puts.items c.loop-index-test.true
     (op_at c.args.ops.now at op below c.index-ops-index.is)

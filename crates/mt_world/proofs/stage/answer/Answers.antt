@@ -1,6 +1,6 @@
-use Rattle.std.proofs.Common.{arith, sym, ap, subst, ◌∙◌, length, Ok}
+use Rattle.std.proofs.Common.{◌≡◌, arith, sym, ap, subst, ◌∙◌, length, Ok}
 use Rattle.mt_batch_plan.specs.Calls.{Absorbs}
-use Rattle.mt_world.proofs.StageLaws.{written_at_write, answered_written, answered_refused}
+use Rattle.mt_world.proofs.StageLaws.{written_at_write, answered_with, written_move, refused_move}
 use Rattle.mt_world.proofs.stage.answer.Goals as goal
 
 pub copy_tags-copy-requires-clause-room : goal.copy_tags-copy-requires-clause-room
@@ -20,10 +20,14 @@ push-requires-clause-tagged c =
 
 pub returns-in-Ok-Written : goal.returns-in-Ok-Written
 returns-in-Ok-Written c =
-    answered_written c.args.call c.absorb.new.self c.args.reply c.args.log.now.history c.push.new.self.history c.args.caller c.in-Ok-Written.field-0 c.in-Ok-Written.tags c.copy_tags-copy.result c.into_batch.result
-    c.absorb.ensures.batch c.in-Ok-Written.ensures.moves c.in-Ok-Written.field-0-is c.into_batch.ensures c.copy_tags-copy.ensures c.push.ensures
+    answered_with c.args.call c.absorb.new.self c.args.reply c.args.log.now c.push.new.self c.args.caller c.in-Ok-Written.field-0 _ _
+    c.absorb.ensures.batch c.in-Ok-Written.ensures.moves
+    (written_move c.absorb.new.self c.in-Ok-Written.field-0 c.in-Ok-Written.tags c.copy_tags-copy.result c.into_batch.result c.in-Ok-Written.field-0-is c.copy_tags-copy.ensures c.into_batch.ensures)
+    c.push.ensures.history c.push.ensures.numbers c.push.ensures.faults
 
 pub returns-in-Ok-Refused : goal.returns-in-Ok-Refused
 returns-in-Ok-Refused c =
-    answered_refused c.args.call c.absorb.new.self c.args.reply c.args.log.now.history c.push-in-Ok-Refused.new.self.history c.args.caller c.in-Ok-Refused.field-0 c.in-Ok-Refused.refusal c.into_batch-in-Ok-Refused.result
-    c.absorb.ensures.batch c.in-Ok-Refused.ensures.moves c.in-Ok-Refused.field-0-is c.into_batch-in-Ok-Refused.ensures c.push-in-Ok-Refused.ensures
+    answered_with c.args.call c.absorb.new.self c.args.reply c.args.log.now c.push-in-Ok-Refused.new.self c.args.caller c.in-Ok-Refused.field-0 _ _
+    c.absorb.ensures.batch c.in-Ok-Refused.ensures.moves
+    (refused_move c.absorb.new.self c.in-Ok-Refused.field-0 c.in-Ok-Refused.refusal c.into_batch-in-Ok-Refused.result c.in-Ok-Refused.field-0-is c.into_batch-in-Ok-Refused.ensures)
+    c.push-in-Ok-Refused.ensures.history c.push-in-Ok-Refused.ensures.numbers c.push-in-Ok-Refused.ensures.faults

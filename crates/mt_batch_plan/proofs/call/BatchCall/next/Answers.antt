@@ -4,8 +4,8 @@ use Rattle.mt_batch_plan.proofs.call.BatchCall.next.Goals as goal
 pub returns-in-WriteOld-clause-asks : goal.returns-in-WriteOld-clause-asks
 returns-in-WriteOld-clause-asks c =
     let inside = c.self.inside in
-    asks_rows c.write_rows.result inside.batch inside.place c.in-WriteOld.rows c.as_slice.result.now inside.plan.order.items c.deref.result.now inside.plan.tags.items c.args.self.now
-    c.self.view_is c.in-WriteOld.is c.as_slice.ensures.value c.deref.ensures.value c.self.invariant.1 c.write_rows.ensures.asks
+    asks_rows c.write_rows.result inside.batch inside.place c.in-WriteOld.rows inside.plan.order.items c.deref.result.now inside.plan.tags.items c.args.self.now
+    c.self.view_is c.in-WriteOld.is c.deref.ensures.value c.self.invariant.1 c.write_rows.ensures.asks
 
 pub returns-in-BirthOld-clause-asks : goal.returns-in-BirthOld-clause-asks
 returns-in-BirthOld-clause-asks c =

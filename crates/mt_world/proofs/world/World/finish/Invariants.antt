@@ -1,5 +1,6 @@
 use Rattle.mt_world.specs.declared.actor.Actor.TheVariants.{Client}
-use Rattle.mt_world.specs.Turns.{CanStep, Knows}
+use Rattle.mt_world.specs.Moves.{CanStep}
+use Rattle.mt_world.specs.Turns.{Knows}
 use Rattle.mt_world.proofs.FinishLaws.{Went, calls_left}
 use Rattle.mt_world.proofs.world.World.finish.Given as goal
 

@@ -1,0 +1,112 @@
+-- How an actor moves: what it asks of a store, and what becomes of it and of the history with the store's reply. Each kind of actor has its line in each definition.
+use Rattle.std.specs.Prelude.{◌≡◌, ℕ, Bool, List, [], Option, Some, None, Result, Ok, Err}
+use Rattle.mt_model.specs.declared.text.NoMemory.{NoMemory as NoMemoryOf}
+use Rattle.mt_chain.specs.declared.ask.StoreAsk.{StoreAsk}
+use Rattle.mt_chain.specs.declared.ask.StoreReply.{StoreReply}
+use Rattle.mt_chain.specs.Batch.{batch_weight}
+use Rattle.mt_history.specs.declared.entry.What.{What}
+use Rattle.mt_history.specs.declared.entry.What.TheVariants as what
+use Rattle.mt_history.specs.declared.model.Reply.{Reply}
+use Rattle.mt_history.specs.declared.model.Reply.TheVariants as reply
+use Rattle.mt_meta.specs.declared.fact.Fact.{Fact}
+use Rattle.mt_batch_plan.specs.declared.place.Place.TheVariants.{ReadOld}
+use Rattle.mt_batch_plan.specs.declared.call.BatchProgress.{BatchProgress}
+use Rattle.mt_batch_plan.specs.declared.call.BatchProgress.TheVariants as batch
+use Rattle.mt_batch_plan.specs.Calls.{Call, CallFits, Asks, Absorbs, call_facts}
+use Rattle.mt_world.specs.declared.actor.Request.{Request}
+use Rattle.mt_world.specs.declared.actor.Request.TheVariants as request
+use Rattle.mt_world.specs.declared.actor.ClientCall.{ClientCall}
+use Rattle.mt_world.specs.declared.actor.ClientCall.TheVariants as client
+use Rattle.mt_world.specs.declared.actor.Actor.{Actor}
+use Rattle.mt_world.specs.declared.actor.Actor.TheVariants.{Client}
+use Rattle.mt_world.specs.declared.actor.Answer.{Answer}
+use Rattle.mt_world.specs.declared.actor.Answer.TheVariants.{Written, Refused}
+use Rattle.mt_world.specs.declared.actor.Progress.{Progress}
+use Rattle.mt_world.specs.declared.actor.Progress.TheVariants.{More, Done}
+use Rattle.mt_world.specs.declared.actor.TurnFault.{TurnFault}
+
+-- an entry that a turn leaves in the history, and the reply to it
+pub record NewEntry : Type 0 where
+  pub what : What
+  pub reply : Reply
+
+-- what a store's reply makes of an actor: what it tells, the entry that it leaves, if any, and the actor afterwards
+pub record Move : Type 0 where
+  pub progress : Progress
+  pub entry : Option NewEntry
+  pub after : Actor
+
+-- ---- what each actor keeps, knows, needs and asks
+
+-- a call that has not ended
+abbrev pub CanStep : Actor → Type 0
+CanStep (Client (client.Batch call)) = Unit {0}
+CanStep (Client client.Ended) = ⊥
+
+-- what each actor keeps of itself
+abbrev pub ActorFits : Actor → Type 0
+ActorFits (Client (client.Batch call)) = CallFits call
+ActorFits (Client client.Ended) = Unit {0}
+
+-- what an actor knows between its turns
+abbrev pub actor_facts : Actor → List Fact
+actor_facts (Client (client.Batch call)) = call_facts call
+actor_facts (Client client.Ended) = []
+
+-- the room in the history that a turn needs
+abbrev pub need_of : Actor → ℕ
+need_of (Client (client.Batch call)) = batch_weight call.batch
+need_of (Client client.Ended) = 0
+
+-- the store call that an actor asks for
+abbrev pub ActorAsks : Actor → StoreAsk → Type 0
+ActorAsks (Client (client.Batch call)) ask = Asks call.batch call.place ask
+ActorAsks (Client client.Ended) ask = ⊥
+
+-- ---- how each actor moves
+
+-- a batch goes on, or ends with an entry that has its operations, and with that entry's reply
+abbrev pub batch_move : Call → BatchProgress → Move
+batch_move to batch.More = record { progress = More; entry = None; after = Client (client.Batch to) }
+batch_move to (batch.Written tags) = record { progress = Done (Written tags); entry = Some (record { what = what.Batch to.batch tags; reply = reply.Written tags }); after = Client client.Ended }
+batch_move to (batch.Refused refusal) = record { progress = Done (Refused refusal); entry = Some (record { what = what.Refused to.batch; reply = reply.Refused refusal }); after = Client client.Ended }
+
+-- it takes the reply, and goes to its next place
+pub record BatchMoves (call : Call) (answer : StoreReply) (move : Move) : Type 0 where
+  pub said : BatchProgress
+  pub to : Call
+  pub same : to.batch ≡ call.batch
+  pub absorbs : Absorbs call.batch call.place answer (Ok said) to.place
+  pub is : move ≡ batch_move to said
+
+abbrev pub ActorMoves : Actor → StoreReply → Move → Type 0
+ActorMoves (Client (client.Batch call)) answer move = BatchMoves call answer move
+ActorMoves (Client client.Ended) answer move = ⊥
+
+-- the actor after a turn that came to nothing: it ends a client's call
+abbrev pub after_fault : Actor → Actor
+after_fault (Client call) = Client client.Ended
+
+-- the entry that says that a store call failed
+abbrev pub fault_entry : NewEntry
+fault_entry = record { what = what.Fault; reply = reply.NoReply }
+
+-- whether the world is retired after a turn: a client's turn leaves that
+abbrev pub retired_by : Actor → Result Progress TurnFault → Bool → Bool
+retired_by (Client call) r retired = retired
+
+-- ---- calls from their beginning
+
+-- the call of a request, at its beginning
+abbrev pub IsCallOf : Request → ClientCall → Type 0
+IsCallOf (request.Batch batch) call = call ≡ client.Batch (record { batch = batch; place = ReadOld })
+
+-- the call is at its beginning
+abbrev pub IsAtBegin : Actor → Type 0
+IsAtBegin (Client (client.Batch call)) = call.place ≡ ReadOld
+IsAtBegin (Client client.Ended) = ⊥
+
+-- the most turns that a call takes from its beginning while nothing moves and both stores tell: a read and a write
+abbrev pub turns_at_most : Actor → ℕ
+turns_at_most (Client (client.Batch call)) = 2
+turns_at_most (Client client.Ended) = 0

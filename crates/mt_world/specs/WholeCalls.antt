@@ -1,0 +1,79 @@
+-- A client's call from its beginning to its answer: turns one after the other, each with its mark.
+use Rattle.std.specs.Prelude.{◌≡◌, ℕ, ◌+◌, ◌≤◌, All, not, List, [], ◌∷◌, length, Option, Some, None, Result, Ok, Err}
+use Rattle.mt_chain.specs.declared.op.Op.{Op}
+use Rattle.mt_chain.specs.Batch.{batch_weight}
+use Rattle.mt_history.specs.declared.entry.What.TheVariants as what
+use Rattle.mt_history.specs.declared.model.Reply.TheVariants as reply
+use Rattle.mt_history.specs.Kept.{has_room}
+use Rattle.mt_world.specs.declared.actor.Actor.{Actor}
+use Rattle.mt_world.specs.declared.actor.Answer.{Answer}
+use Rattle.mt_world.specs.declared.actor.Answer.TheVariants.{Written, Refused}
+use Rattle.mt_world.specs.declared.actor.Progress.{Progress}
+use Rattle.mt_world.specs.declared.actor.Progress.TheVariants.{More, Done}
+use Rattle.mt_world.specs.declared.actor.TurnFault.{TurnFault}
+use Rattle.mt_world.specs.declared.actor.TurnFault.TheVariants.{StoreFault, HistoryFull, NoMemory}
+use Rattle.mt_world.specs.Worlds.{WorldState, Tells}
+use Rattle.mt_world.specs.Moves.{NewEntry, IsAtBegin, turns_at_most, fault_entry}
+use Rattle.mt_world.specs.Logs.{entries_with}
+use Rattle.mt_world.specs.Turns.{Turns, IsSameWorld, RepliesAt, EitherRose, is_full}
+
+-- where a turn found the end of the history, counted from the first entry ever made, and the entry that it left there, if any
+pub record Mark : Type 0 where
+  pub place : ℕ
+  pub entry : Option NewEntry
+
+-- the place behind the last entry
+abbrev pub end_of : WorldState → ℕ
+end_of w = w.history.first + length w.history.entries
+
+-- a turn with its mark
+pub record MarkedTurn (m : Mark) (w : WorldState) (caller : ℕ) (a : Actor) (r : Result Progress TurnFault) (w' : WorldState) (a' : Actor) : Type 0 where
+  pub place : m.place ≡ end_of w
+  pub turn : Turns w caller a r m.entry w' a'
+
+-- the turn of an answer, and that of a fault
+abbrev pub last_turn : Result Answer TurnFault → Result Progress TurnFault
+last_turn (Ok answer) = Ok (Done answer)
+last_turn (Err fault) = Err fault
+
+-- turns with these marks: all go on, but for the last, which ends the call
+abbrev pub Finishes : List Mark → WorldState → ℕ → Actor → Result Answer TurnFault → WorldState → Type 0
+Finishes [] w caller a r w' = ⊥
+Finishes (m ∷ []) w caller a r w' = (after : Actor) × MarkedTurn m w caller a (last_turn r) w' after
+Finishes (m ∷ next ∷ marks) w caller a r w' = (v : WorldState) × (b : Actor) × MarkedTurn m w caller a (Ok More) v b × Finishes (next ∷ marks) v caller b r w'
+
+-- turns that end a call; one that begins takes few while nothing moves and both stores tell
+pub record EndsCall (w : WorldState) (caller : ℕ) (a : Actor) (r : Result Answer TurnFault) (w' : WorldState) : Type 0 where
+  pub marks : List Mark
+  pub turns : Finishes marks w caller a r w'
+  pub few : IsAtBegin a → Tells w' → length marks ≤ turns_at_most a
+
+-- ---- the whole call of a batch
+
+-- the entry that a batch leaves with its answer
+abbrev pub batch_entry : List Op → Result Answer TurnFault → Option NewEntry
+batch_entry ops (Ok (Written tags)) = Some (record { what = what.Batch ops tags; reply = reply.Written tags })
+batch_entry ops (Ok (Refused refusal)) = Some (record { what = what.Refused ops; reply = reply.Refused refusal })
+batch_entry ops (Err StoreFault) = Some fault_entry
+batch_entry ops (Err HistoryFull) = None
+batch_entry ops (Err NoMemory) = None
+
+-- the marks of turns that found the history with that end, of which the last left this entry, or none
+abbrev pub AreMarksAt : ℕ → Option NewEntry → List Mark → Type 0
+AreMarksAt place entry [] = ⊥
+AreMarksAt place entry (m ∷ []) = m ≡ record { place = place; entry = entry }
+AreMarksAt place entry (m ∷ next ∷ marks) = (m ≡ record { place = place; entry = None }) × AreMarksAt place entry (next ∷ marks)
+
+-- what turns of a batch with no other caller between them come to: one entry at most, with the answer
+pub record BatchAnswers (w : WorldState) (caller : ℕ) (ops : List Op) (marks : List Mark) (r : Result Answer TurnFault) (w' : WorldState) : Type 0 where
+  pub same : IsSameWorld w w'
+  pub retired : w'.retired ≡ w.retired
+  pub tells : Tells w' → Tells w
+  pub full : is_full r ≡ not (has_room w.history (batch_weight ops))
+  pub marks_are : AreMarksAt (end_of w) (batch_entry ops r) marks
+  pub entries : w'.history.entries ≡ entries_with w.history.entries w.numbers caller (batch_entry ops r)
+  pub replies : RepliesAt w (batch_entry ops r) w'
+  pub cause : r ≡ Err StoreFault → EitherRose w w'
+  pub old_faults : w.old_store.faults ≤ w'.old_store.faults
+  pub new_faults : w.new_store.faults ≤ w'.new_store.faults
+  pub calls : w.calls ≤ w'.calls
