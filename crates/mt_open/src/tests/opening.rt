@@ -10,7 +10,6 @@ use mt_mem::MemKeeper;
 use mt_meta::MARKER_KEY as MARKER;
 use mt_model::{Entities, Entity, Tag, Text};
 use std::alloc::Global;
-use std::cmp::Ordering;
 use std::test::Fail;
 
 /// A row that clients see: its keys, and its tag as store and number.
@@ -226,7 +225,7 @@ fn with_two(
     second: Row,
 ) -> Result<MemKeeper, Fail> {
     let (a, b) = (first.1.tag, second.1.tag);
-    let rise = first.0.order(&second.0) == Ordering::Less;
+    let rise = first.0.order(&second.0).is_lt();
     if !rise || !is_given(number, counter, a) || !is_given(number, counter, b) || a.n == b.n {
         return Err(Fail::new("no rows of a store"));
     }
