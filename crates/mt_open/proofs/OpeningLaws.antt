@@ -11,7 +11,7 @@ use Rattle.mt_open.specs.declared.opening.OpenFault.{OpenFault}
 use Rattle.mt_open.specs.declared.opening.OpenFault.TheVariants as fault
 use Rattle.mt_open.specs.Held.{Held}
 use Rattle.mt_open.specs.Reading.{Passed, AsBefore}
-use Rattle.mt_open.specs.Opening.{Stays, Finds, OpenShows, Opens, Holds, fault_of}
+use Rattle.mt_open.specs.Opening.{Stays, Finds, OpenShows, OpensPair, HoldsStore, fault_of}
 use Rattle.mt_open.proofs.ReadingLaws.{onward_start}
 
 -- the pair of two stores that were read
@@ -30,11 +30,11 @@ passed_stays failed s t p same = record { number = p.number; calls = p.calls; fa
 untouched : (s : Store) → Stays s s
 untouched s = record { number = refl; calls = omega arith; faults = omega arith; contents = onward_start Same s.told (λ a. refl) }
 
-held_stays : (s t : Store) (h : Held) → Holds s (Ok h) t → Stays s t
+held_stays : (s t : Store) (h : Held) → HoldsStore s (Ok h) t → Stays s t
 held_stays s t h r = passed_stays _ s t r.passed (same_of s.told t.told (λ before after. (after ≡ before) × (h.contents ≡ before)) (λ before after both. both.0) r.shows.1)
 
 -- what was read of a store that tells is what it tells
-told_held : (s t : Store) (h : Held) → Holds s (Ok h) t → IfSome t.told (λ c. h.contents ≡ c)
+told_held : (s t : Store) (h : Held) → HoldsStore s (Ok h) t → IfSome t.told (λ c. h.contents ≡ c)
 told_held s t h r = go s.told t.told r.shows.1 where
   go : (a b : Option Contents) → Onward (λ before after. (after ≡ before) × (h.contents ≡ before)) a b → IfSome b (λ c. h.contents ≡ c)
   go a None o = tt
@@ -53,7 +53,7 @@ nothing_found : (t t' : Store) → OpenShows (Err fault.NoMemory) t t'
 nothing_found t t' = for_pair t.number t'.number t.told t'.told (λ p. Finds p (Err fault.NoMemory)) (λ a b low high. tt)
 
 -- old was not read
-pub old_not_read : (s s' t : Store) (why : ReadFault) → Holds s (Err why) t → Opens s s' (Err (fault_of why)) t s'
+pub old_not_read : (s s' t : Store) (why : ReadFault) → HoldsStore s (Err why) t → OpensPair s s' (Err (fault_of why)) t s'
 old_not_read s s' t read.Failed r = record {
   old_stays = passed_stays _ s t r.passed r.shows;
   new_stays = untouched s';
@@ -68,7 +68,7 @@ old_not_read s s' t read.NoMemory r = record {
 }
 
 -- new was not read
-pub new_not_read : (s s' t t' : Store) (a : Held) (why : ReadFault) → Holds s (Ok a) t → Holds s' (Err why) t' → Opens s s' (Err (fault_of why)) t t'
+pub new_not_read : (s s' t t' : Store) (a : Held) (why : ReadFault) → HoldsStore s (Ok a) t → HoldsStore s' (Err why) t' → OpensPair s s' (Err (fault_of why)) t t'
 new_not_read s s' t t' a read.Failed low r = record {
   old_stays = held_stays s t a low;
   new_stays = passed_stays _ s' t' r.passed r.shows;
@@ -83,7 +83,7 @@ new_not_read s s' t t' a read.NoMemory low r = record {
 }
 
 -- both were read, and this was found of them
-pub both_read : (s s' t t' : Store) (a b : Held) (r : Result (List Entity) OpenFault) → Holds s (Ok a) t → Holds s' (Ok b) t' → Finds (pair_held a b) r → Opens s s' r t t'
+pub both_read : (s s' t t' : Store) (a b : Held) (r : Result (List Entity) OpenFault) → HoldsStore s (Ok a) t → HoldsStore s' (Ok b) t' → Finds (pair_held a b) r → OpensPair s s' r t t'
 both_read s s' t t' a b (Ok es) low high found = record {
   old_stays = held_stays s t a low;
   new_stays = held_stays s' t' b high;

@@ -25,7 +25,7 @@ use Rattle.mt_chain.proofs.KeyLaws.{key_total, text_true, text_same}
 use Rattle.mt_open.specs.declared.reading.Loaded.{Loaded}
 use Rattle.mt_open.specs.declared.reading.ReadFault.{ReadFault}
 use Rattle.mt_open.specs.declared.reading.ReadFault.TheVariants.{NoMemory}
-use Rattle.mt_open.specs.Reading.{is_failure, Passed, AsBefore, IsRead, Reads, keyed, chunk_query, last_key, place_after, keyed_row, ReadsChunk, AllPass, IsReadTo, is_before_in, is_in, ReadUpTo, ReadsPartition, AsksNext, Walked}
+use Rattle.mt_open.specs.Reading.{is_failure, Passed, AsBefore, IsRead, ReadsStore, keyed, chunk_query, last_key, place_after, keyed_row, ReadsChunk, AllPass, IsReadTo, is_before_in, is_in, ReadUpTo, ReadsPartition, AsksNext, Walked}
 use Rattle.mt_open.proofs.ReadingLists.{Entry, weaker, always, filter_none, filter_all, filter_twice, rising_filter, joined, last_of, taken, or_right}
 use Rattle.mt_open.proofs.ReadingShape.{text_cmp, turned, from_apart, past_apart, less_by_pk, same_pk, last_is, key_each, shape_more, shape_whole, shape_start}
 
@@ -385,19 +385,19 @@ walk_more s t u v at rows rows' next pk walked asks e part = record {
   told = onward_then (Mid at rows next) (IsReadTo rows (is_in pk) rows') (IsReadTo [] (is_passed (start.After pk)) rows') s.told u.told v.told (step at pk rows rows' next e) (mid s t u at rows next walked asks) part.shows.1;
 }
 
-pub walk_end : (s t u : Store) (at : PkFrom) (loaded : Loaded) (next : Next) → Walked s at loaded.rows t → AsksNext t at (Ok next) u → next.pk ≡ None → loaded.sealed ≡ next.sealed → Reads s (Ok loaded) u
+pub walk_end : (s t u : Store) (at : PkFrom) (loaded : Loaded) (next : Next) → Walked s at loaded.rows t → AsksNext t at (Ok next) u → next.pk ≡ None → loaded.sealed ≡ next.sealed → ReadsStore s (Ok loaded) u
 walk_end s t u at loaded next walked asks e sealed = record {
   passed = passed_then false s t u walked.passed asks.passed;
   shows = onward_one (Mid at loaded.rows next) (IsRead loaded.rows loaded.sealed) s.told u.told (finish at loaded next e sealed) (mid s t u at loaded.rows next walked asks);
 }
 
-pub walk_next_err : (s t u : Store) (at : PkFrom) (rows : Rows) (fault : ReadFault) → Walked s at rows t → AsksNext t at (Err fault) u → Reads s (Err fault) u
+pub walk_next_err : (s t u : Store) (at : PkFrom) (rows : Rows) (fault : ReadFault) → Walked s at rows t → AsksNext t at (Err fault) u → ReadsStore s (Err fault) u
 walk_next_err s t u at rows fault walked asks = record {
   passed = passed_then (is_failure fault) s t u walked.passed asks.passed;
   shows = as_before_then (IsReadTo [] (is_passed at) rows) s t u (same_first [] (is_passed at) rows) walked.told asks.shows;
 }
 
-pub walk_part_err : (s t u v : Store) (at : PkFrom) (rows rows' : Rows) (next : Next) (pk : List ℕ) (fault : ReadFault) → Walked s at rows t → AsksNext t at (Ok next) u → ReadsPartition u pk rows (Err fault) rows' v → Reads s (Err fault) v
+pub walk_part_err : (s t u v : Store) (at : PkFrom) (rows rows' : Rows) (next : Next) (pk : List ℕ) (fault : ReadFault) → Walked s at rows t → AsksNext t at (Ok next) u → ReadsPartition u pk rows (Err fault) rows' v → ReadsStore s (Err fault) v
 walk_part_err s t u v at rows rows' next pk fault walked asks part =
     record {
       passed = passed_then (is_failure fault) s u v (passed_then false s t u walked.passed asks.passed) part.passed;
@@ -407,7 +407,7 @@ walk_part_err s t u v at rows rows' next pk fault walked asks part =
 pub walk_smaller : (t u v : Store) (at : PkFrom) (rows rows' : Rows) (next : Next) (pk : List ℕ) (r : Result (Unit {0}) ReadFault) → AsksNext t at (Ok next) u → ReadsPartition u pk rows r rows' v → 2 ^ 62 - v.calls < 2 ^ 62 - t.calls
 walk_smaller t u v at rows rows' next pk r asks part = fewer t u v asks.shows.0 asks.shows.1.0 part.passed.calls
 
-pub walk_no_text : (s : Store) → Reads s (Err NoMemory) s
+pub walk_no_text : (s : Store) → ReadsStore s (Err NoMemory) s
 walk_no_text s = record {
   passed = none_passed s;
   shows = onward_start Same s.told (λ a. refl);

@@ -51,7 +51,7 @@ OpenShows (Err StoreFault) t t' = Unit {0}
 OpenShows r t t' = ForPair t.number t'.number t.told t'.told (λ p. Finds p r)
 
 -- what comes of opening two stores
-pub record Opens (s s' : Store) (r : Result (List Entity) OpenFault) (t t' : Store) : Type 0 where
+pub record OpensPair (s s' : Store) (r : Result (List Entity) OpenFault) (t t' : Store) : Type 0 where
   pub old_stays : Stays s t
   pub new_stays : Stays s' t'
   pub faults : OpenFaults (is_store_fault r) s s' t t'
@@ -65,7 +65,7 @@ HoldShows (Ok held) s t = (held.number ≡ t.number) × Onward (λ before after.
 HoldShows (Err fault) s t = AsBefore s t
 
 -- what comes of reading a store with its number
-pub record Holds (s : Store) (r : Result Held ReadFault) (t : Store) : Type 0 where
+pub record HoldsStore (s : Store) (r : Result Held ReadFault) (t : Store) : Type 0 where
   pub passed : Passed (has_failed r) s t
   pub shows : HoldShows r s t
 

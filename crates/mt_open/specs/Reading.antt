@@ -57,7 +57,7 @@ ReadShows (Ok loaded) s t = Onward (IsRead loaded.rows loaded.sealed) s.told t.t
 ReadShows (Err fault) s t = AsBefore s t
 
 -- what comes of reading a store
-pub record Reads (s : Store) (r : Result Loaded ReadFault) (t : Store) : Type 0 where
+pub record ReadsStore (s : Store) (r : Result Loaded ReadFault) (t : Store) : Type 0 where
   pub passed : Passed (has_failed r) s t
   pub shows : ReadShows r s t
 

@@ -1,7 +1,7 @@
 //! Two stores opened as one table.
 ghost use Rattle.std.specs.Prelude.{◌≡◌};
 ghost use Rattle.mt_open.specs.Holdings.{pair_in};
-ghost use Rattle.mt_open.specs.Opening.{Holds, Opens, Finds, fault_of, damaged};
+ghost use Rattle.mt_open.specs.Opening.{HoldsStore, OpensPair, Finds, fault_of, damaged};
 
 use crate::damage::Damage;
 use crate::first::first_damage;
@@ -43,7 +43,7 @@ impl From<NoMemory> for OpenFault {
 
 /// All that a store holds, with its number.
 fn hold<K: Keeper>(alloc: Global, keeper: &mut K) -> Result<Holding, ReadFault>
-    ensures { Holds (K.state keeper.old) result (K.state keeper.new) }
+    ensures { HoldsStore (K.state keeper.old) result (K.state keeper.new) }
 {
     match read_store(alloc, keeper) {
         Ok(loaded) => Ok(Holding::of(
@@ -98,7 +98,7 @@ pub fn open_pair<K: Keeper>(
     old_store: &mut K,
     new_store: &mut K,
 ) -> Result<Entities, OpenFault>
-    ensures { Opens (K.state old_store.old) (K.state new_store.old) result (K.state old_store.new) (K.state new_store.new) }
+    ensures { OpensPair (K.state old_store.old) (K.state new_store.old) result (K.state old_store.new) (K.state new_store.new) }
 {
     let old = match hold(alloc, old_store) {
         Ok(old) => old,

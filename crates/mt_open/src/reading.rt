@@ -5,7 +5,7 @@ ghost use Rattle.std.specs.Ordering.{nat_cmp};
 ghost use Rattle.std.specs.Cmp.Lexicographic.{slice_cmp};
 ghost use Rattle.mt_chain.specs.Places.{is_before};
 ghost use Rattle.mt_chain.specs.StoreCall.{CanQuery};
-ghost use Rattle.mt_open.specs.Reading.{Passed, has_failed, Reads, keyed_row, keyed, chunk_query, last_key, place_after, ReadsChunk, QueryShows, AllPass, ReadsPartition, without_value, AsksNext};
+ghost use Rattle.mt_open.specs.Reading.{Passed, has_failed, ReadsStore, keyed_row, keyed, chunk_query, last_key, place_after, ReadsChunk, QueryShows, AllPass, ReadsPartition, without_value, AsksNext};
 
 use mt_chain::{
     Found, KeepFault, Keeper, Next, PkFrom, Range, RangeQuery, RkFrom, Row, Rows, Stored, StoredRow,
@@ -196,7 +196,7 @@ fn next_partition<K: Keeper>(alloc: Global, keeper: &mut K, at: &PkFrom) -> Resu
 /// Where the store tells its contents they are all of its rows. Only a call that failed raises the count
 /// of faults.
 pub fn read_store<K: Keeper>(alloc: Global, keeper: &mut K) -> Result<Loaded, ReadFault>
-    ensures { Reads (K.state keeper.old) result (K.state keeper.new) }
+    ensures { ReadsStore (K.state keeper.old) result (K.state keeper.new) }
 {
     let mut rows = Vec::new(alloc);
     let mut at = PkFrom::From(Text::of(alloc, "")?);
