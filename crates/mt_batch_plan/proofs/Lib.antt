@@ -1,4 +1,5 @@
 pub mod OldChanges
+pub mod NewChanges
 pub mod OnRows
 pub mod OnTags
 pub mod OnRead
