@@ -1,5 +1,6 @@
 pub mod OldChanges
 pub mod NewChanges
+pub mod NewFacts
 pub mod OnRows
 pub mod OnTags
 pub mod OnRead

@@ -1,5 +1,5 @@
 -- What a batch asks of the new store: what clients see by the rows read of both stores, and the put of an operation on the entry read at its key.
-use Rattle.std.specs.Prelude.{ℕ, List, [], ◌∷◌, map, Option, Some, None, option_map}
+use Rattle.std.specs.Prelude.{ℕ, List, [], ◌∷◌, ◌++◌, map, Option, Some, None, option_map}
 use Rattle.mt_chain.specs.declared.op.Op.{Op}
 use Rattle.mt_chain.specs.declared.row.Put.{Put}
 use Rattle.mt_chain.specs.declared.row.Put.TheVariants as put
@@ -8,11 +8,16 @@ use Rattle.mt_chain.specs.declared.row.StoredRow.{StoredRow}
 use Rattle.mt_chain.specs.declared.ask.Side.TheVariants.{New}
 use Rattle.mt_chain.specs.declared.ask.Ask.TheVariants as ask
 use Rattle.mt_chain.specs.declared.ask.StoreAsk.{StoreAsk}
+use Rattle.mt_chain.specs.declared.query.PkFrom.TheVariants as start
 use Rattle.mt_chain.specs.Table.{Table}
 use Rattle.mt_chain.specs.Effect.{op_key, effect, left_by, any_tag}
+use Rattle.mt_rules.specs.Batches.{partition_of}
 use Rattle.mt_meta.specs.declared.mark.Mark.TheVariants.{Live, Tomb}
 use Rattle.mt_meta.specs.declared.marker.NewPhase.{NewPhase}
 use Rattle.mt_meta.specs.declared.marker.NewPhase.TheVariants.{Filling, UseNew}
+use Rattle.mt_meta.specs.declared.fact.Keys.TheVariants as keys
+use Rattle.mt_meta.specs.declared.fact.Fact.{Fact}
+use Rattle.mt_meta.specs.declared.fact.Fact.TheVariants as fact
 use Rattle.mt_meta.specs.Markers.{marker_key, marker_props, new_kind}
 use Rattle.mt_meta.specs.Marks.{stored}
 use Rattle.mt_meta.specs.Logical.{Shown, from_new, from_both}
@@ -62,3 +67,17 @@ reads_new pk names = record { side = New; ask = ask.Query (record { pk = pk; nam
 -- a write of the new store: the put of the marker, and then those of the operations on the rows that were read
 abbrev pub writes_new : List ℕ → Put → NewPhase → List StoredRow → List StoredRow → List Op → StoreAsk
 writes_new pk first phase rows entries sorted = record { side = New; ask = ask.Apply pk (first ∷ map (entry_put phase rows entries) sorted) }
+
+-- ---- what a call knows
+
+-- the row keys that the operations name
+abbrev pub row_keys : List Op → List (List ℕ)
+row_keys ops = map (λ op. (op_key op).rk) ops
+
+-- once old was turned: while new fills, old's rows at the operations' keys stay those that were read
+abbrev pub turned_fact : List Op → List StoredRow → Fact
+turned_fact ops rows = fact.Turned (partition_of ops) (keys.Named (row_keys ops)) rows
+
+-- once old was sealed: it has nothing of this partition, which ends before its key with a zero byte behind it
+abbrev pub closed_fact : List ℕ → Fact
+closed_fact pk = fact.Closed (start.From pk) (Some (pk ++ (0 ∷ [])))
