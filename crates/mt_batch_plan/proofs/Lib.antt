@@ -2,6 +2,7 @@ pub mod OldChanges
 pub mod NewChanges
 pub mod NewFacts
 pub mod OnEntries
+pub mod PutTags
 pub mod OnRows
 pub mod OnTags
 pub mod OnRead
