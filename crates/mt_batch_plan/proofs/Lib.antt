@@ -7,6 +7,7 @@ pub mod OnRows
 pub mod OnTags
 pub mod OnRead
 pub mod Writing
+pub mod Applied
 pub mod BatchLaw
 pub mod UnmovedLaws
 pub mod NameLaws
