@@ -8,6 +8,8 @@ pub mod OnTags
 pub mod OnRead
 pub mod Writing
 pub mod Applied
+pub mod NewLaws
+pub mod NewReads
 pub mod BatchLaw
 pub mod UnmovedLaws
 pub mod NameLaws

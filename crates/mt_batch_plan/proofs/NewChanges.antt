@@ -243,8 +243,8 @@ module _ (p : Pair) (pk : List ℕ) (phase : NewPhase) (props : List Prop) (tag 
   at_marker : IsSeen (new_at p pk marker_key) props tag
   at_marker = seen p.new pk marker_key props tag knows (each_held 0 p.new.rows pk (Check marker_key tag ∷ rest) met).0
 
-  state : new_state_at p pk ≡ new_says (Some phase)
-  state = ap new_state at_marker.is ∙ ap (λ (ps : List Prop). new_says (new_phase_of ps)) at_marker.props ∙ ap new_says reads
+  pub checked_state : new_state_at p pk ≡ new_says (Some phase)
+  checked_state = ap new_state at_marker.is ∙ ap (λ (ps : List Prop). new_says (new_phase_of ps)) at_marker.props ∙ ap new_says reads
 
   row_written : (rk : List ℕ) → new_at pair_written pk rk ≡ row_after p.new_number p.new.counter rest rk (new_at p pk rk)
   row_written rk = all_puts p.new_number p.new.counter pk rest p.new.rows rk
@@ -253,7 +253,7 @@ module _ (p : Pair) (pk : List ℕ) (phase : NewPhase) (props : List Prop) (tag 
   marker_same = row_written marker_key ∙ marker_stays pk phase p.new_number p.new.counter rest (new_at p pk marker_key) good
 
   state_written : new_state_at pair_written pk ≡ new_says (Some phase)
-  state_written = ap new_state marker_same ∙ state
+  state_written = ap new_state marker_same ∙ checked_state
 
   mode_same : mode pair_written pk ≡ mode p pk
   mode_same = ap (λ x. mode_of (old_state_at p pk) (new_state x) p.old.sealed) marker_same
@@ -278,7 +278,7 @@ module _ (p : Pair) (pk : List ℕ) (props : List Prop) (tag : Tag) (part : Keys
   pair_filled = pair_written p pk Filling props tag rest s knows reads good met
 
   fills : new_state_at p pk ≡ AtFilling
-  fills = state p pk Filling props tag rest s knows reads good met
+  fills = checked_state p pk Filling props tag rest s knows reads good met
 
   is_turned : is_prefer_new (old_state_at p pk) ≡ true
   is_turned = turned.turned (ap is_filling fills)
@@ -320,7 +320,7 @@ module _ (p : Pair) (pk : List ℕ) (props : List Prop) (tag : Tag) (rest : List
   pair_used = pair_written p pk UseNew props tag rest s knows reads good met
 
   used : new_state_at p pk ≡ AtUseNew
-  used = state p pk UseNew props tag rest s knows reads good met
+  used = checked_state p pk UseNew props tag rest s knows reads good met
 
   low_used : 5 ≤ rank (mode p pk)
   low_used = use_new_low p pk s used
