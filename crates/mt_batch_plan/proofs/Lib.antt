@@ -14,6 +14,7 @@ pub mod BatchLaw
 pub mod UnmovedLaws
 pub mod NameLaws
 pub mod EffectLaws
+pub mod EntryLaws
 pub mod OrderLaws
 pub mod FillLaws
 pub mod CallLaws
