@@ -1,0 +1,9 @@
+mod BodyLaws
+mod ByteLaws
+mod ChunkLaws
+mod FillLaws
+mod HeadLaws
+mod PieceLaws
+mod RequestLaws
+mod TrailerLaws
+mod WordLaws
