@@ -6,4 +6,5 @@ mod HeadLaws
 mod PieceLaws
 mod RequestLaws
 mod TrailerLaws
+pub mod UniqueLaws
 mod WordLaws

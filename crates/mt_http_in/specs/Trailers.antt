@@ -1,8 +1,9 @@
 -- The trailers behind the chunks of a body.
-use Rattle.std.specs.Prelude.{◌≡◌, ℕ, ◌+◌, ◌<◌, ◌≤◌, ◌⊎◌, List, length, take, All}
-use Rattle.std.specs.List.{flat_map}
+use Rattle.std.specs.Prelude.{◌≡◌, ℕ, zero, suc, ◌+◌, ◌<◌, ◌≤◌, ◌⊎◌, ◌==◌, Bool, List, [], ◌∷◌, length, take, All, if◌then◌else◌}
+use Rattle.std.specs.List.{flat_map, count_by}
+use Rattle.httparse.specs.Ascii.{line_feed}
 use Rattle.httparse.specs.Grammar.{Field, IsField, LineEnd, print_field, print_section, ReadsSection, HasNoSection, MayBecomeSection, NeverHasSection}
-use Rattle.httparse.specs.Spans.{SectionExceeds}
+use Rattle.httparse.specs.Spans.{SectionExceeds, SectionOverflows}
 use Rattle.mt_http_in.specs.declared.trailers.Trailers.{Trailers}
 use Rattle.mt_http_in.specs.declared.trailers.Trailers.TheVariants.{Whole, More, Overlong, Malformed}
 use Rattle.mt_http_in.specs.declared.Code.{Code}
@@ -25,33 +26,47 @@ pub record SpellsTrailers (room : ℕ) (bytes : List ℕ) (u : Unit {0}) : Type 
   pub are : AreTrailers room fields
   pub is : bytes ≡ print_section fields last
 
+abbrev pub is_feed : ℕ → Bool
+is_feed b = b == line_feed
+
+-- how many lines the bytes end
+abbrev pub feeds : List ℕ → ℕ
+feeds bytes = count_by is_feed bytes
+
 -- no field section stands whole in the bytes, and more bytes can make one of them
 pub record AreTrailersBegun (room : ℕ) (bytes : List ℕ) : Type 0 where
   pub none : HasNoSection bytes
   pub coming : MayBecomeSection bytes
   pub short : length bytes < room + 2
+  pub few : feeds bytes < 65
 
--- the bytes in which trailers stand with the longest line end
+-- the first n lines, and all where there are fewer
+abbrev pub first_lines : ℕ → List ℕ → List ℕ
+first_lines zero bytes = []
+first_lines (suc n) [] = []
+first_lines (suc n) (b ∷ bytes) = b ∷ (if is_feed b then first_lines n bytes else first_lines (suc n) bytes)
+
+-- the bytes in which trailers stand: with the longest line end, and at most 65 lines with the empty one
 abbrev pub window : ℕ → List ℕ → List ℕ
-window room all = take (room + 2) all
+window room all = first_lines 65 (take (room + 2) all)
 
 -- a field section whose lines have no room
 pub record IsLongSection (room : ℕ) (all : List ℕ) : Type 0 where
   pub fields : List Field
   pub last : LineEnd
   pub rest : List ℕ
-  pub reads : ReadsSection all fields last rest
+  pub reads : ReadsSection (window room all) fields last rest
   pub long : room < length (print_lines fields)
 
 -- a field section that does not end where there is room
 pub record IsEndless (room : ℕ) (all : List ℕ) : Type 0 where
   pub none : HasNoSection (window room all)
   pub coming : MayBecomeSection (window room all)
-  pub long : room + 2 ≤ length all
+  pub long : (room + 2 ≤ length all) ⊎ (65 ≤ feeds (window room all))
 
 -- too many fields, or too long
 abbrev pub IsOverlong : ℕ → List ℕ → Type 0
-IsOverlong room all = SectionExceeds 64 (window room all) ⊎ (IsLongSection room all ⊎ IsEndless room all)
+IsOverlong room all = (SectionOverflows 64 (window room all) × SectionExceeds 64 (window room all)) ⊎ (IsLongSection room all ⊎ IsEndless room all)
 
 -- why trailers are refused
 abbrev pub TrailersRefused : ℕ → Code → List ℕ → Type 0

@@ -2,7 +2,7 @@
 ghost use Rattle.std.specs.Prelude.{◌≡◌, ◌≤◌, ◌+◌, ℕ, List, length, take};
 ghost use Rattle.httparse.specs.Grammar.{Field, LineEnd, print_section};
 ghost use Rattle.mt_http_in.specs.Reading.{Reads};
-ghost use Rattle.mt_http_in.specs.Trailers.{print_lines, window, TrailersAs, SpellsTrailers, AreTrailersBegun, TrailersRefused};
+ghost use Rattle.mt_http_in.specs.Trailers.{print_lines, feeds, first_lines, window, TrailersAs, SpellsTrailers, AreTrailersBegun, TrailersRefused};
 
 use crate::Code;
 use crate::reader::{Halt, Reader};
@@ -50,12 +50,40 @@ fn front(bytes: &[u8], n: usize) -> &[u8]
     &bytes[..n.min(bytes.len())]
 }
 
+fn first_lines(bytes: &[u8], most: usize) -> &[u8]
+    ensures { result.now ≡ first_lines most bytes.now }
+{
+    let mut left = most;
+    let mut at = 0;
+    'lines: while at < bytes.len() && left > 0 {
+        if bytes[at] == b'\n' {
+            left -= 1;
+        }
+        at += 1;
+    }
+    front(bytes, at)
+}
+
+fn feeds(bytes: &[u8]) -> usize
+    ensures { result ≡ feeds bytes.now }
+{
+    bytes.iter().filter(|byte| **byte == b'\n').count()
+}
+
+/// The bytes in which trailers stand.
+fn window(bytes: &[u8], room: usize) -> &[u8]
+    requires { room ≤ 16384 }
+    ensures { result.now ≡ window room bytes.now }
+{
+    first_lines(front(bytes, room + 2), MAX_FIELDS + 1)
+}
+
 fn parse_trailers(bytes: &[u8], room: usize) -> Trailers
     requires { room ≤ 16384 }
     ensures { TrailersAs room bytes.now result }
 {
     let mut spans = [EMPTY_HEADER_SPAN; MAX_FIELDS];
-    let seen = front(bytes, room + 2);
+    let seen = window(bytes, room);
     match parse_headers(seen, &mut spans) {
         Ok(Status::Complete((len, _count))) => {
             if lines_len(&seen[..len]) > room {
@@ -65,7 +93,7 @@ fn parse_trailers(bytes: &[u8], room: usize) -> Trailers
             }
         }
         Ok(Status::Partial) => {
-            if bytes.len() < room + 2 {
+            if bytes.len() < room + 2 && feeds(seen) <= MAX_FIELDS {
                 Trailers::More
             } else {
                 Trailers::Overlong
