@@ -47,6 +47,7 @@ pub record IsLineBegun (bytes : List ℕ) : Type 0 where
 abbrev pub HasNoLine : List ℕ → Type 0
 HasNoLine all = (l : ChunkLine) (rest : List ℕ) → IsLine l → all ≡ print_chunk_line l ++ rest → ⊥
 
+-- no chunk line stands at the front, which makes the body invalid
 abbrev pub NoLine : Code → List ℕ → Type 0
 NoLine c all = (c ≡ InvalidBody) × HasNoLine all
 
@@ -86,6 +87,7 @@ pub record IsChunk (c : Chunk) : Type 0 where
   pub size : chunk_size c.line ≡ length c.content
   pub some : 0 < length c.content
 
+-- each is a chunk
 abbrev pub AllChunks : List Chunk → Type 0
 AllChunks [] = Unit {0}
 AllChunks (c ∷ cs) = IsChunk c × AllChunks cs

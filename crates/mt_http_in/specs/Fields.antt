@@ -85,6 +85,7 @@ has_body Unclear = false
 abbrev pub calls_for : List Field → Bool
 calls_for fs = expects fs && has_body (framing_of fs)
 
+-- a comma
 abbrev pub is_comma : ℕ → Bool
 is_comma c = c == comma
 

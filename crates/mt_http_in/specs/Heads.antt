@@ -85,6 +85,7 @@ ParsedAs bytes (Whole v) = (h : RequestHead) × IsHead h × HoldsHead v h × (by
 ParsedAs bytes More = IsHeadBegun bytes
 ParsedAs bytes Bad = NeverHasHead bytes × (0 < length bytes)
 
+-- what reading a head says, by its answer
 abbrev pub HeadAs : List ℕ → Input → Result (Option Head) Halt → List ℕ → Input → Type 0
 HeadAs kept s (Ok (Some v)) kept' t = (h : RequestHead) × IsHead h × HoldsHead v h × Spent kept s (print_request h) kept' t
 HeadAs kept s (Ok None) kept' t = (ahead kept s ≡ ahead kept' t) × IfSome (ahead kept s) (λ all. all ≡ []) × (t.calls ≤ s.calls + 1)

@@ -26,6 +26,7 @@ pub record Filled (kept : List ℕ) (s : Input) (n : ℕ) (kept' : List ℕ) (t 
   pub once : t.calls ≡ s.calls + 1
   pub early : t.calls ≤ 2 ^ 32
 
+-- what one filling says, by its answer
 abbrev pub FilledAs : List ℕ → Input → Result ℕ Halt → List ℕ → Input → Type 0
 FilledAs kept s (Ok n) kept' t = Filled kept s n kept' t
 FilledAs kept s (Err ReadFault) kept' t = (t.left ≡ s.left) × Rose s.faults t.faults × (t.calls ≤ s.calls + 1)
@@ -69,6 +70,7 @@ ReadAs Spells Begun Refuses kept s (Err ReadFault) kept' t = (bytes : List ℕ) 
 ReadAs Spells Begun Refuses kept s (Err NoMemory) kept' t = Unit {0}
 ReadAs Spells Begun Refuses kept s (Err (Refused c)) kept' t = Closes c × IfSome (ahead kept s) (Refuses c) × Ended s t
 
+-- reads alone were made, and the part of reading says that
 pub record Reads {V : Type 0} (Spells : List ℕ → V → Type 0) (Begun : List ℕ → Type 0) (Refuses : Code → List ℕ → Type 0) (kept : List ℕ) (s : Input) (r : Result V Halt) (kept' : List ℕ) (t : Input) : Type 0 where
   pub later : Later s t
   pub read : ReadAs Spells Begun Refuses kept s r kept' t

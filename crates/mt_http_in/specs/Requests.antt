@@ -17,6 +17,7 @@ use Rattle.mt_http_in.specs.Reading.{ahead, Later, Spent, Failed, Ended}
 use Rattle.mt_http_in.specs.Heads.{IsHead, HasHead, HoldsHead, HasNoHead, IsHeadBegun, fields_of}
 use Rattle.mt_http_in.specs.Bodies.{SpellsBody, IsBodyBegun, BodyRefused}
 
+-- the reply `100 Continue`
 abbrev pub continue_bytes : List ℕ
 continue_bytes = codes "HTTP/1.1 100 Continue" ++ crlf_bytes ++ crlf_bytes
 
@@ -101,6 +102,7 @@ pub record Closed (kept : List ℕ) (s : Input) (w : Output) (c : Code) (close :
   pub refuses : IfSome (ahead kept s) (λ all. Refuses all c bytes)
   pub ended : Ended s t
 
+-- what a refusal says, by its code
 abbrev pub RefusedAs : List ℕ → Input → Output → Code → Bool → List ℕ → Input → Output → Type 0
 RefusedAs kept s w InvalidHead close kept' t x = Closed kept s w InvalidHead close t x
 RefusedAs kept s w InvalidFraming close kept' t x = Closed kept s w InvalidFraming close t x
@@ -156,6 +158,7 @@ FaultOf halt.ReadFault f = f ≡ ReadFault
 FaultOf halt.NoMemory f = f ≡ NoMemory
 FaultOf (halt.Refused c) f = f ≡ Refused (status_of c) c true
 
+-- what reading a request says, by its answer
 abbrev pub RequestAs : List ℕ → Input → Output → Result (Option Incoming) InFault → List ℕ → Input → Output → Type 0
 RequestAs kept s w (Ok (Some v)) kept' t x = (h : RequestHead) × (body : List ℕ) × Got kept s w h body kept' t x × HoldsRequest v h body × (is_packed (fields_of h) ≡ false)
 RequestAs kept s w (Ok None) kept' t x = (ahead kept s ≡ ahead kept' t) × IfSome (ahead kept s) (λ all. all ≡ []) × (x ≡ w) × (t.calls ≤ s.calls + 1)

@@ -26,6 +26,7 @@ pub record SpellsTrailers (room : ℕ) (bytes : List ℕ) (u : Unit {0}) : Type 
   pub are : AreTrailers room fields
   pub is : bytes ≡ print_section fields last
 
+-- a line feed
 abbrev pub is_feed : ℕ → Bool
 is_feed b = b == line_feed
 
