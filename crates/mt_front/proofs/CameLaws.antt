@@ -1,21 +1,15 @@
 -- How an operation came out over a world.
-use Rattle.std.proofs.Common.{◌≡◌, ℕ, ◌+◌, ◌-◌, ◌≤◌, true, false, List, [], ◌∷◌, ◌++◌, length, Option, Some, None, Ok, Err, refl, sym, ap, ◌∙◌, arith, subst, append-nil}
-use Rattle.std.specs.Prelude.{All, Bool, Result, not, is_some, IfSome, ◌⊎◌}
+use Rattle.std.proofs.Common.{◌≡◌, ℕ, ◌-◌, true, false, List, [], ◌∷◌, ◌++◌, Option, Some, None, Err, refl, sym, ap, ◌∙◌, arith, subst, append-nil}
+use Rattle.std.specs.Prelude.{All, Result, is_some, IfSome}
 use Rattle.std.specs.Option.{option_to_list}
 use Rattle.std.proofs.lemmas.List.{drop_all}
 use Rattle.std.proofs.lemmas.List.Elements.{All-nil, All-cons}
-use Rattle.mt_model.specs.declared.tag.Tag.{Tag}
 use Rattle.mt_chain.specs.declared.op.Op.{Op}
-use Rattle.mt_chain.specs.declared.op.Refusal.{Refusal}
 use Rattle.mt_chain.specs.Batch.{batch_weight}
-use Rattle.mt_chain.specs.Store.{Rose}
 use Rattle.mt_chain.specs.Table.{table_of, rows_of}
 use Rattle.mt_history.specs.declared.entry.Entry.{Entry}
-use Rattle.mt_history.specs.Kept.{has_room}
-use Rattle.mt_history.specs.Window.{Window, replay}
 use Rattle.mt_history.specs.Replies.{Replies}
 use Rattle.mt_world.specs.declared.actor.Answer.{Answer}
-use Rattle.mt_world.specs.declared.actor.Answer.TheVariants as answer
 use Rattle.mt_world.specs.declared.actor.TurnFault.{TurnFault}
 use Rattle.mt_world.specs.declared.actor.TurnFault.TheVariants as fault
 use Rattle.mt_world.specs.Worlds.{WorldState, Tells, table_now, entry_of}
@@ -25,12 +19,9 @@ use Rattle.mt_world.specs.Turns.{IsSameWorld, RepliesAt}
 use Rattle.mt_world.specs.WholeCalls.{Mark, BatchAnswers, batch_entry}
 use Rattle.mt_world.specs.Turns as turns
 use Rattle.mt_front.specs.declared.refusals.BadRequest.{BadRequest}
-use Rattle.mt_front.specs.declared.asks.Asked.{Asked}
 use Rattle.mt_front.specs.declared.asks.Asked.TheVariants as asked
-use Rattle.mt_front.specs.declared.asks.Echo.{Echo}
 use Rattle.mt_front.specs.declared.connection.Outcome.{Outcome}
-use Rattle.mt_front.specs.declared.connection.Outcome.TheVariants as outcome
-use Rattle.mt_front.specs.Items.{ItemOutcome, Bad, Item, is_full, is_fault, entries_of}
+use Rattle.mt_front.specs.Items.{Bad, is_full, is_fault}
 use Rattle.mt_front.specs.Answers.{Past, FitsFrom, RepliesFound, NoneOf, Counts, IsCaused, MayStay, past_end, entries_from, table_found}
 use Rattle.mt_front.specs.Session.{past_of, counts_of, ToldBefore, Added}
 use Rattle.mt_front.specs.Turns.{CameOut, LeavesNothing, Tried, outcome_of, left_by}

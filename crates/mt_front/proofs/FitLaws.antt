@@ -1,9 +1,9 @@
 -- How the items of a connection go on fitting a history that grows.
 use Rattle.std.proofs.Common.{◌≡◌, ◌≢◌, ℕ, ◌+◌, ◌-◌, ◌≤◌, List, [], ◌∷◌, ◌++◌, length, take, drop, Option, Some, None, refl, sym, ap, ◌∙◌, arith, subst, length-append}
-use Rattle.std.specs.Prelude.{All, not, ◌||◌, IfSome}
+use Rattle.std.specs.Prelude.{not, ◌||◌, IfSome}
 use Rattle.std.specs.List.{list_any, slice_range}
 use Rattle.std.proofs.lemmas.List.{take-append-le, drop-append-le, drop-drop, take_rest, length-drop}
-use Rattle.std.proofs.lemmas.List.Elements.{All-append, All-nil}
+use Rattle.std.proofs.lemmas.List.Elements.{All-append}
 use Rattle.std.proofs.lemmas.List.Folds.{drop_split}
 use Rattle.std.proofs.Math.Seq.{take-add}
 use Rattle.mt_history.specs.declared.entry.Entry.{Entry}
@@ -13,7 +13,7 @@ use Rattle.mt_history.specs.Replies.{Replies}
 use Rattle.mt_world.specs.Moves.{NewEntry}
 use Rattle.mt_world.specs.WholeCalls.{Mark}
 use Rattle.mt_front.specs.Items.{Item, is_full, need_of}
-use Rattle.mt_front.specs.Answers.{Past, past_end, entries_before, entries_from, entries_between, found, table_found, NoneOf, StandsFirst, RepliesFound, IsNextMark, place_behind, behind, AreNextMarks, FoundRoom, FitsAt, MayStay, BreaksOff, FitsFrom}
+use Rattle.mt_front.specs.Answers.{Past, past_end, entries_before, entries_from, entries_between, found, NoneOf, StandsFirst, RepliesFound, IsNextMark, place_behind, behind, AreNextMarks, FitsAt, FitsFrom}
 
 -- ---- parts of lists
 

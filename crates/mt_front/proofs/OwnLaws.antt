@@ -1,18 +1,18 @@
 -- Turns with no other caller between them: all find the history with the same end, and the last alone leaves an entry, or none does.
-use Rattle.std.proofs.Common.{◌≡◌, ℕ, ◌+◌, ◌-◌, ◌≤◌, List, [], ◌∷◌, ◌++◌, length, take, drop, Option, Some, None, refl, sym, ap, ◌∙◌, arith, subst, length-append}
-use Rattle.std.specs.Prelude.{All, Bool, true, false, not, ◌||◌}
-use Rattle.std.specs.List.{list_any, slice_range}
+use Rattle.std.proofs.Common.{◌≡◌, ℕ, ◌+◌, ◌-◌, List, [], ◌∷◌, ◌++◌, length, take, drop, Option, Some, None, refl, sym, ap, ◌∙◌, arith, subst, length-append}
+use Rattle.std.specs.Prelude.{Bool, true, false, not, ◌||◌}
+use Rattle.std.specs.List.{list_any}
 use Rattle.std.specs.Option.{option_to_list}
 use Rattle.std.proofs.Math.Seq.{take-append_seam, drop-append_seam}
 use Rattle.std.proofs.lemmas.List.{drop_all}
 use Rattle.std.proofs.lemmas.List.Elements.{All-nil}
 use Rattle.mt_history.specs.declared.entry.Entry.{Entry}
-use Rattle.mt_history.specs.Kept.{Kept, has_room}
+use Rattle.mt_history.specs.Kept.{has_room}
 use Rattle.mt_history.specs.Window.{replay}
 use Rattle.mt_world.specs.Moves.{NewEntry}
 use Rattle.mt_world.specs.WholeCalls.{Mark, AreMarksAt}
 use Rattle.mt_front.specs.Items.{entries_of}
-use Rattle.mt_front.specs.Answers.{Past, past_end, entries_before, entries_from, entries_between, found, table_found, NoneOf, StandsFirst, RepliesFound, IsNextMark, place_behind, behind, AreNextMarks}
+use Rattle.mt_front.specs.Answers.{Past, past_end, entries_before, entries_from, found, table_found, NoneOf, StandsFirst, RepliesFound, IsNextMark, place_behind, behind, AreNextMarks}
 use Rattle.mt_front.proofs.FitLaws.{grown}
 
 -- these entries are that of the caller's, or none

@@ -1,5 +1,5 @@
 -- Items one after the other in the bytes of a connection.
-use Rattle.std.proofs.Common.{◌≡◌, ℕ, List, [], ◌∷◌, ◌++◌, refl, sym, ap, ◌∙◌, append_assoc, append-nil}
+use Rattle.std.proofs.Common.{ℕ, List, [], ◌∷◌, ◌++◌, refl, sym, ap, ◌∙◌, append_assoc, append-nil}
 use Rattle.mt_front.specs.Items.{Item}
 use Rattle.mt_front.specs.Spells.{Spells, SpellsAll}
 

@@ -1,6 +1,6 @@
 -- How the turns of a session add up.
-use Rattle.std.proofs.Common.{◌≡◌, ℕ, ◌+◌, ◌-◌, ◌≤◌, List, [], ◌∷◌, ◌++◌, length, Option, Some, None, Ok, Err, refl, sym, ap, ◌∙◌, arith, subst, append_assoc, append-nil, length-append, inl, inr}
-use Rattle.std.specs.Prelude.{All, Result, IfSome}
+use Rattle.std.proofs.Common.{◌≡◌, ℕ, ◌+◌, ◌≤◌, List, [], ◌∷◌, ◌++◌, length, Option, Some, None, Ok, Err, refl, sym, ap, ◌∙◌, arith, subst, append_assoc, append-nil, length-append, inl, inr}
+use Rattle.std.specs.Prelude.{Result, IfSome}
 use Rattle.std.proofs.lemmas.List.Elements.{All-nil, All-cons, All-append}
 use Rattle.mt_io.specs.Ends.{Input, Output, Rose, before_known, after_known}
 use Rattle.mt_io.proofs.Pieces.{after_after, after_nothing, before_before, before_nothing}
@@ -26,10 +26,10 @@ use Rattle.mt_world.specs.WholeCalls.{Mark}
 use Rattle.mt_front.specs.Asks.{RequestAsks}
 use Rattle.mt_front.specs.Items.{Item, Renders, IsRendered, entries_of}
 use Rattle.mt_front.specs.Answers.{FitsFrom, IsCaused, AreCaused, past_end}
-use Rattle.mt_front.specs.Spells.{Spells, SpellsAll}
+use Rattle.mt_front.specs.Spells.{SpellsAll}
 use Rattle.mt_front.specs.Session.{Sent, Cut, past_of, counts_of, Added, Talk, SessionAs, Serves}
-use Rattle.mt_front.specs.Turns.{LeavesNothing, CameOut, Tries, outcome_of, tried_item, left_by, WritesReply, Answering, AnswersAs, AnswersOne, AnswersPlainAs, AnswersRequest, OneMore, TurnAs, SessionTurn}
-use Rattle.mt_front.proofs.FitLaws.{grown, fits_sooner, fits_join}
+use Rattle.mt_front.specs.Turns.{LeavesNothing, CameOut, Tries, outcome_of, tried_item, left_by, WritesReply, AnswersAs, AnswersOne, AnswersPlainAs, AnswersRequest, OneMore, TurnAs, SessionTurn}
+use Rattle.mt_front.proofs.FitLaws.{fits_sooner, fits_join}
 use Rattle.mt_front.proofs.CameLaws.{same_self, same_then, told_self, told_then, tells_before, past_grown, added_self, fits_none}
 use Rattle.mt_front.proofs.CauseLaws.{caused_more}
 use Rattle.mt_front.proofs.SpellLaws.{spells_more}

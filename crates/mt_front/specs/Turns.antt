@@ -1,5 +1,5 @@
 -- One turn of a session: one request read, answered over the world, and its reply written.
-use Rattle.std.specs.Prelude.{◌≡◌, ◌⊎◌, ℕ, ◌≤◌, true, List, [], ◌∷◌, length, Option, Result, Ok, Err, IfSome}
+use Rattle.std.specs.Prelude.{◌≡◌, ◌⊎◌, ℕ, ◌≤◌, List, [], ◌∷◌, Option, Result, Ok, Err, IfSome}
 use Rattle.mt_io.specs.Ends.{Input, Output}
 use Rattle.mt_model.specs.declared.text.NoMemory.{NoMemory as NoRoom}
 use Rattle.mt_chain.specs.declared.op.Op.{Op}

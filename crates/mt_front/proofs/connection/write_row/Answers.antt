@@ -1,5 +1,4 @@
-use Rattle.std.proofs.Common.{◌∙◌, refl, sym, subst}
-use Rattle.mt_front.specs.declared.asks.Asked.TheVariants.{Write}
+use Rattle.std.proofs.Common.{◌∙◌, sym, subst}
 use Rattle.mt_front.specs.declared.connection.Outcome.TheVariants as outcome
 use Rattle.mt_front.specs.Replies.{IsDoneReply}
 use Rattle.mt_front.proofs.TalkLaws.{tried_answered}
