@@ -4,5 +4,5 @@ mod EditLaws
 mod PassLaws
 mod PlanLaws
 mod AnswerLaws
-mod TagLaws
+pub mod TagLaws
 mod MemoryLaws

@@ -1,8 +1,8 @@
 -- Rows whose tags their store gave go on as such.
-use Rattle.std.proofs.Common.{◌≡◌, ℕ, ◌+◌, ◌<◌, Bool, true, false, cond, not, List, [], ◌∷◌, map, filter, refl, sym, ap, subst, arith, nat_eq, ne_eqb, Less, Equal, Greater}
+use Rattle.std.proofs.Common.{◌≡◌, ℕ, ◌+◌, ◌<◌, Bool, true, false, cond, not, ◌&&◌, List, [], ◌∷◌, map, filter, refl, sym, ap, subst, arith, nat_eq, ne_eqb, Less, Equal, Greater}
 use Rattle.std.proofs.lemmas.List.Elements.{All-from_recursion, recursion_from_All}
 use Rattle.std.specs.List.{AllByRecursion, IsDistinct}
-use Rattle.std.specs.Ordering.{eq_by_cmp}
+use Rattle.std.specs.Ordering.{is_lt, eq_by_cmp}
 use Rattle.std.specs.FinMap.Entries.{put, by_order}
 use Rattle.mt_model.specs.declared.key.Key.{Key}
 use Rattle.mt_model.specs.Key.{key_cmp}
@@ -11,6 +11,7 @@ use Rattle.mt_chain.specs.declared.row.Put.{Put}
 use Rattle.mt_chain.specs.declared.row.Put.TheVariants.{Check, Insert, Replace, Delete}
 use Rattle.mt_chain.specs.Rows.{Rows, key_at, with_row, without_row}
 use Rattle.mt_chain.specs.Puts.{next_tag, counter_after, rows_after, all_rows_after, all_counter_after}
+use Rattle.mt_mem.specs.Entries.{Row, entry, entries}
 use Rattle.mt_mem.specs.Memory.{IsGiven, AreRows, Memory, IsMemory, done_in}
 use Rattle.mt_chain.proofs.RowLaws.{rising_with_row, rising_without_row}
 
@@ -133,3 +134,16 @@ none_apart = tt
 
 pub no_rows_yet : (store counter : ℕ) → AreRows store counter []
 no_rows_yet store counter = record { rising = refl; given = λ k d l. absurd (omega arith); apart = none_apart }
+
+two_apart : (n m : ℕ) → nat_eq n m ≡ false → IsDistinct nat_eq (n ∷ m ∷ [])
+unfolding IsDistinct
+two_apart n m ne = ((ne, tt), (tt, tt))
+
+-- two rows that a store may begin with
+pub two_rows : (store counter : ℕ) (a b : Row) → is_lt (key_cmp (entry a).0 (entry b).0) ≡ true → IsGiven store counter a.1.tag → IsGiven store counter b.1.tag → nat_eq a.1.tag.n b.1.tag.n ≡ false
+    → AreRows store counter (entries (a ∷ b ∷ []))
+two_rows store counter a b less given also ne = record {
+  rising = ap (λ t. (t && true) && true) less;
+  given = All-from_recursion (λ (e : Entry). IsGiven store counter e.1.tag) (entries (a ∷ b ∷ [])) (given, (also, tt));
+  apart = two_apart a.1.tag.n b.1.tag.n ne;
+}

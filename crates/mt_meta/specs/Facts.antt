@@ -24,6 +24,7 @@ use Rattle.mt_meta.specs.Logical.{Pair, OldState, NoOld, AtPreferOld, AtPreferNe
 use Rattle.mt_meta.specs.Sound.{NoTomb, IsKept}
 use Rattle.mt_meta.specs.Modes.{Overlaid, mode, rank}
 
+-- the row key is one of those listed
 abbrev pub is_in : List ℕ → List (List ℕ) → Bool
 is_in rk listed = list_any (bytes_eq rk) listed
 
@@ -137,6 +138,7 @@ abbrev pub Apart : Fact → Fact → Type 0
 Apart (fact.Epoch pk tag part) (fact.Epoch pk' tag' part') = pk ≡ pk' → tag ≡ tag' → ⊥
 Apart f g = Unit {0}
 
+-- the fact is apart from each of these
 abbrev pub ApartFrom : Fact → List Fact → Type 0
 ApartFrom f [] = Unit {0}
 ApartFrom f (g ∷ gs) = Apart f g × ApartFrom f gs
@@ -146,6 +148,7 @@ abbrev pub IsPlain : Fact → Type 0
 IsPlain (fact.Epoch pk tag part) = ⊥
 IsPlain f = Unit {0}
 
+-- none of these facts does
 abbrev pub AllPlain : List Fact → Type 0
 AllPlain [] = Unit {0}
 AllPlain (f ∷ fs) = IsPlain f × AllPlain fs

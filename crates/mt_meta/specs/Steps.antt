@@ -43,11 +43,12 @@ with_old p c = record { old_number = p.old_number; new_number = p.new_number; ol
 abbrev pub with_new : Pair → Contents → Pair
 with_new p c = record { old_number = p.old_number; new_number = p.new_number; old = p.old; new = c }
 
--- what the reply of one of two stores says of them before and after the call; the other store stays
+-- what a reply of that one of two stores says of them before and after the call; the other store stays
 abbrev pub MeansOn : Side → Ask → StoreReply → Pair → Pair → Type 0
 MeansOn Old a r p q = Means p.old_number a r p.old q.old × (q ≡ with_old p q.old)
 MeansOn New a r p q = Means p.new_number a r p.new q.new × (q ≡ with_new p q.new)
 
+-- what the reply to a call of one of two stores says of them
 abbrev pub PairMeans : StoreAsk → StoreReply → Pair → Pair → Type 0
 PairMeans a r p q = MeansOn a.side a.ask r p q
 

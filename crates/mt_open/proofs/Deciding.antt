@@ -28,8 +28,8 @@ use Rattle.mt_meta.specs.Logical.{Pair}
 use Rattle.mt_meta.specs.Sound.{IsOldMarker, IsNewMarker, HasTag, IsEntry, IsOldRow}
 use Rattle.mt_meta.proofs.MarkLaws.{live_reads, copy_reads}
 use Rattle.mt_meta.proofs.Rules.{key_cases}
-use Rattle.mt_open.specs.declared.damage.Side.{Side}
-use Rattle.mt_open.specs.declared.damage.Side.TheVariants.{Old, New}
+use Rattle.mt_chain.specs.declared.ask.Side.{Side}
+use Rattle.mt_chain.specs.declared.ask.Side.TheVariants.{Old, New}
 use Rattle.mt_open.specs.Damage.{IsMarkerIn, IsRowIn, HasForm}
 
 -- it is so, or it is not so

@@ -12,8 +12,8 @@ use Rattle.mt_chain.proofs.OrderLaws.{reversed}
 use Rattle.mt_meta.specs.Logical.{Pair}
 use Rattle.mt_open.specs.declared.damage.Rule.{Rule}
 use Rattle.mt_open.specs.declared.damage.Rule.TheVariants as rule
-use Rattle.mt_open.specs.declared.damage.Side.{Side}
-use Rattle.mt_open.specs.declared.damage.Side.TheVariants.{Old, New}
+use Rattle.mt_chain.specs.declared.ask.Side.{Side}
+use Rattle.mt_chain.specs.declared.ask.Side.TheVariants.{Old, New}
 use Rattle.mt_open.specs.declared.damage.Damage.{Damage}
 use Rattle.mt_open.specs.Damage.{rule_number, Place, FailsByRow, FailsAt, place, spot_cmp, place_cmp, IsLeastIn, IsFirstAt, IsFirstBy, IsFirst, IsDamage, all_rules}
 

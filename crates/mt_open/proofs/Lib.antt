@@ -11,3 +11,4 @@ mod FirstLaws
 mod TableLaws
 mod WalkLaws
 mod OpeningLaws
+pub mod Theorems

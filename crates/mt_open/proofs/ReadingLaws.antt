@@ -20,12 +20,12 @@ use Rattle.mt_chain.specs.declared.query.Next.{Next}
 use Rattle.mt_chain.specs.Rows.{Rows, key_at, are_rising, is_from, is_past, shown, has_partition}
 use Rattle.mt_chain.specs.Places.{is_before, is_passed}
 use Rattle.mt_chain.specs.StoreCall.{Contents, IsContents, CanQuery, FitsQuery, IsFound, IsNext}
-use Rattle.mt_chain.specs.Store.{Store, Onward, Rose, Counted, Early, Same}
+use Rattle.mt_chain.specs.Store.{Store, Onward, Rose, FaultsBy, Counted, Early, Same}
 use Rattle.mt_chain.proofs.KeyLaws.{key_total, text_true, text_same}
 use Rattle.mt_open.specs.declared.reading.Loaded.{Loaded}
 use Rattle.mt_open.specs.declared.reading.ReadFault.{ReadFault}
-use Rattle.mt_open.specs.declared.reading.ReadFault.TheVariants.{Failed, NoMemory}
-use Rattle.mt_open.specs.Reading.{Passed, Faulted, IsRead, Reads, keyed, chunk_query, last_key, place_after, ReadsChunk, AllPass, IsReadTo, is_before_in, is_in, ReadUpTo, ReadsPartition, AsksNext, Walked}
+use Rattle.mt_open.specs.declared.reading.ReadFault.TheVariants.{NoMemory}
+use Rattle.mt_open.specs.Reading.{is_failure, Passed, AsBefore, IsRead, ReadsStore, keyed, chunk_query, last_key, place_after, keyed_row, ReadsChunk, AllPass, IsReadTo, is_before_in, is_in, ReadUpTo, ReadsPartition, AsksNext, Walked}
 use Rattle.mt_open.proofs.ReadingLists.{Entry, weaker, always, filter_none, filter_all, filter_twice, rising_filter, joined, last_of, taken, or_right}
 use Rattle.mt_open.proofs.ReadingShape.{text_cmp, turned, from_apart, past_apart, less_by_pk, same_pk, last_is, key_each, shape_more, shape_whole, shape_start}
 
@@ -47,7 +47,7 @@ keyed_shown pk from (e ∷ rows) = elim (in_chunk pk from e) as (λ b. in_chunk 
 keyed_take : (pk : List ℕ) (n : ℕ) (rows : List StoredRow) → keyed pk (take n rows) ≡ take n (keyed pk rows)
 keyed_take pk zero rows = refl
 keyed_take pk (suc n) [] = refl
-keyed_take pk (suc n) (r ∷ rows) = ap (λ rs. (key_at pk r.rk, record { props = r.props; tag = r.tag }) ∷ rs) (keyed_take pk n rows)
+keyed_take pk (suc n) (r ∷ rows) = ap (λ rs. keyed_row pk r ∷ rs) (keyed_take pk n rows)
 
 -- in a partition no row that a chunk may have lies before one that was read
 apart_in : (pk : List ℕ) (from : RkFrom) (e : Entry) → is_before_in pk from e.0 ≡ true → in_chunk pk from e ≡ false
@@ -227,7 +227,7 @@ onward_one P R s None f p = tt
 onward_one P R None (Some b) f p = absurd p
 onward_one P R (Some a) (Some b) f p = f a b p
 
-onward_start : (P : Contents → Contents → Type 0) (s : Option Contents) → ((a : Contents) → P a a) → Onward P s s
+pub onward_start : (P : Contents → Contents → Type 0) (s : Option Contents) → ((a : Contents) → P a a) → Onward P s s
 onward_start P None f = tt
 onward_start P (Some a) f = f a
 
@@ -235,22 +235,24 @@ rising_of : (t : Option Contents) (c : Contents) → t ≡ Some c → IfSome t I
 rising_of (Some d) c e h = subst (λ (x : Contents). are_rising x.rows ≡ true) (let same : d ≡ c = cc in same) h.rising
 rising_of None c e h = absurd cc
 
-passed_then : (s t u : Store) → Passed s t → Passed t u → Passed s u
-passed_then s t u p q = record {
+faults_then : (failed : Bool) (s t u : Store) → t.faults ≡ s.faults → FaultsBy failed t u → FaultsBy failed s u
+faults_then true s t u same rose = subst (λ n. Rose n u.faults) same rose
+faults_then false s t u same still = still ∙ same
+
+passed_then : (failed : Bool) (s t u : Store) → Passed false s t → Passed failed t u → Passed failed s u
+passed_then failed s t u p q = record {
   number = q.number ∙ p.number;
   calls = (let a = p.calls in let b = q.calls in omega arith);
-  faults = (let a = p.faults in let b = q.faults in omega arith);
+  grew = (let a = p.grew in let b = q.grew in omega arith);
+  faults = faults_then failed s t u p.faults q.faults;
 }
 
-counted_passed : (s t : Store) → Counted s t → Passed s t
-counted_passed s t c = record { number = c.number; calls = c.grew; faults = c.faults }
+-- no call yet
+none_passed : (s : Store) → Passed false s s
+none_passed s = record { number = refl; calls = omega arith; grew = omega arith; faults = refl }
 
-rose_then : (a b c : ℕ) → a ≤ b → Rose b c → Rose a c
-rose_then a b c l r = grind arith
-
-pub faulted_then : (P : Contents → Contents → Type 0) (fault : ReadFault) (s t u : Store) → ((a b : Contents) → P a b → b ≡ a) → Passed s t → Onward P s.told t.told → Faulted fault t u → Faulted fault s u
-faulted_then P Failed s t u same passed told f = (rose_then s.faults t.faults u.faults passed.faults f.0, onward_then P Same Same s.told t.told u.told (λ a b c e p q. q ∙ same a b p) told f.1)
-faulted_then P NoMemory s t u same passed told f = onward_then P Same Same s.told t.told u.told (λ a b c e p q. q ∙ same a b p) told f
+as_before_then : (P : Contents → Contents → Type 0) (s t u : Store) → ((a b : Contents) → P a b → b ≡ a) → Onward P s.told t.told → AsBefore t u → AsBefore s u
+as_before_then P s t u same told f = onward_then P Same Same s.told t.told u.told (λ a b c e p q. q ∙ same a b p) told f
 
 -- ---- what a query may ask
 
@@ -262,7 +264,7 @@ can_ask pk from = record { few = omega arith; rising = tt; limit = omega arith }
 
 pub part_start : (s : Store) (pk : List ℕ) (old : Rows) → AllPass (is_before pk place.Start) old → ReadUpTo s pk old place.Start old s
 part_start s pk old all = record {
-  passed = record { number = refl; calls = omega arith; faults = omega arith };
+  passed = none_passed s;
   shape = all;
   told = onward_start (IsReadTo old (is_before_in pk place.Start) old) s.told (λ a. (refl, sym (append-nil old) ∙ ap (λ rs. old ++ rs) (sym (none_in pk a.rows))));
 }
@@ -301,7 +303,7 @@ part_more s t u pk old from now now' at upto chunk =
     let each = each_from pk from found takes.queried.1 in
     let from_k = last_is (λ rk. is_from from rk ≡ true) found.rows k (key_each (λ rk. is_from from rk ≡ true) found.rows each) place_at.1 in
     subst (λ p. ReadUpTo s pk old p now' u) (sym place_at.2) (record {
-      passed = passed_then s t u upto.passed chunk.passed;
+      passed = passed_then false s t u upto.passed chunk.passed;
       shape = subst (λ rs. AllPass (is_before pk (place.After k)) rs) (sym takes.rows) (shape_more pk from now found.rows k upto.shape each takes.rising place_at.1);
       told = told_chunk old now now' (is_before_in pk from) (is_before_in pk (place.After k)) pk from found s.told t.told u.told takes.rows takes.counted.contents
           (λ a h is. told_more pk from found a k h is place_at.1 from_k) upto.told takes.queried.2;
@@ -313,7 +315,7 @@ part_end s t u pk old from now now' upto chunk =
     let takes = chunk.shows.1 in
     let each = each_from pk from found takes.queried.1 in
     record {
-      passed = passed_then s t u upto.passed chunk.passed;
+      passed = passed_then false s t u upto.passed chunk.passed;
       shows = (
         subst (λ rs. AllPass (is_passed (start.After pk)) rs) (sym takes.rows) (shape_whole pk from now found.rows upto.shape each takes.rising),
         told_chunk old now now' (is_before_in pk from) (is_in pk) pk from found s.told t.told u.told takes.rows takes.counted.contents
@@ -323,8 +325,8 @@ part_end s t u pk old from now now' upto chunk =
 
 pub part_err : (s t u : Store) (pk : List ℕ) (old : Rows) (from : RkFrom) (now now' : Rows) (fault : ReadFault) → ReadUpTo s pk old from now t → ReadsChunk t pk from now (Err fault) now' u → ReadsPartition s pk old (Err fault) now' u
 part_err s t u pk old from now now' fault upto chunk = record {
-  passed = passed_then s t u upto.passed chunk.passed;
-  shows = faulted_then (IsReadTo old (is_before_in pk from) now) fault s t u (same_first old (is_before_in pk from) now) upto.passed upto.told chunk.shows;
+  passed = passed_then (is_failure fault) s t u upto.passed chunk.passed;
+  shows = as_before_then (IsReadTo old (is_before_in pk from) now) s t u (same_first old (is_before_in pk from) now) upto.told chunk.shows;
 }
 
 -- after an answer there are fewer calls to come
@@ -363,12 +365,12 @@ step at pk rows rows' next e a b c is m part = (
       ∙ told_next at pk a.rows m.4 (subst (λ o. IsNext at o a.rows) e m.2),
 )
 
-finish : (at : PkFrom) (loaded : Loaded) (next : Next) → next.pk ≡ None → loaded.sealed ≡ next.sealed → (a b : Contents) → Mid at loaded.rows.items next a b → IsRead loaded.rows.items loaded.sealed a b
+finish : (at : PkFrom) (loaded : Loaded) (next : Next) → next.pk ≡ None → loaded.sealed ≡ next.sealed → (a b : Contents) → Mid at loaded.rows next a b → IsRead loaded.rows loaded.sealed a b
 finish at loaded next e sealed a b m = (m.0, m.1 ∙ told_end at a.rows (subst (λ o. IsNext at o a.rows) e m.2), sealed ∙ m.3)
 
 pub walk_start : (s : Store) → Walked s (start.From []) [] s
 walk_start s = record {
-  passed = record { number = refl; calls = omega arith; faults = omega arith };
+  passed = none_passed s;
   shape = record { rising = refl; each = tt };
   told = onward_start (IsReadTo [] (is_passed (start.From [])) []) s.told (λ a. (refl, sym (none_first a.rows)));
 }
@@ -378,36 +380,35 @@ walk_shape s t u at rows next pk walked asks e = shape_start at pk rows walked.s
 
 pub walk_more : (s t u v : Store) (at : PkFrom) (rows rows' : Rows) (next : Next) (pk : List ℕ) → Walked s at rows t → AsksNext t at (Ok next) u → next.pk ≡ Some pk → ReadsPartition u pk rows (Ok tt) rows' v → Walked s (start.After pk) rows' v
 walk_more s t u v at rows rows' next pk walked asks e part = record {
-  passed = passed_then s u v (passed_then s t u walked.passed asks.passed) part.passed;
+  passed = passed_then false s u v (passed_then false s t u walked.passed asks.passed) part.passed;
   shape = part.shows.0;
   told = onward_then (Mid at rows next) (IsReadTo rows (is_in pk) rows') (IsReadTo [] (is_passed (start.After pk)) rows') s.told u.told v.told (step at pk rows rows' next e) (mid s t u at rows next walked asks) part.shows.1;
 }
 
-pub walk_end : (s t u : Store) (at : PkFrom) (loaded : Loaded) (next : Next) → Walked s at loaded.rows.items t → AsksNext t at (Ok next) u → next.pk ≡ None → loaded.sealed ≡ next.sealed → Reads s (Ok loaded) u
+pub walk_end : (s t u : Store) (at : PkFrom) (loaded : Loaded) (next : Next) → Walked s at loaded.rows t → AsksNext t at (Ok next) u → next.pk ≡ None → loaded.sealed ≡ next.sealed → ReadsStore s (Ok loaded) u
 walk_end s t u at loaded next walked asks e sealed = record {
-  passed = passed_then s t u walked.passed asks.passed;
-  shows = (walked.shape.rising, onward_one (Mid at loaded.rows.items next) (IsRead loaded.rows.items loaded.sealed) s.told u.told (finish at loaded next e sealed) (mid s t u at loaded.rows.items next walked asks));
+  passed = passed_then false s t u walked.passed asks.passed;
+  shows = onward_one (Mid at loaded.rows next) (IsRead loaded.rows loaded.sealed) s.told u.told (finish at loaded next e sealed) (mid s t u at loaded.rows next walked asks);
 }
 
-pub walk_next_err : (s t u : Store) (at : PkFrom) (rows : Rows) (fault : ReadFault) → Walked s at rows t → AsksNext t at (Err fault) u → Reads s (Err fault) u
+pub walk_next_err : (s t u : Store) (at : PkFrom) (rows : Rows) (fault : ReadFault) → Walked s at rows t → AsksNext t at (Err fault) u → ReadsStore s (Err fault) u
 walk_next_err s t u at rows fault walked asks = record {
-  passed = passed_then s t u walked.passed asks.passed;
-  shows = faulted_then (IsReadTo [] (is_passed at) rows) fault s t u (same_first [] (is_passed at) rows) walked.passed walked.told asks.shows;
+  passed = passed_then (is_failure fault) s t u walked.passed asks.passed;
+  shows = as_before_then (IsReadTo [] (is_passed at) rows) s t u (same_first [] (is_passed at) rows) walked.told asks.shows;
 }
 
-pub walk_part_err : (s t u v : Store) (at : PkFrom) (rows rows' : Rows) (next : Next) (pk : List ℕ) (fault : ReadFault) → Walked s at rows t → AsksNext t at (Ok next) u → ReadsPartition u pk rows (Err fault) rows' v → Reads s (Err fault) v
+pub walk_part_err : (s t u v : Store) (at : PkFrom) (rows rows' : Rows) (next : Next) (pk : List ℕ) (fault : ReadFault) → Walked s at rows t → AsksNext t at (Ok next) u → ReadsPartition u pk rows (Err fault) rows' v → ReadsStore s (Err fault) v
 walk_part_err s t u v at rows rows' next pk fault walked asks part =
-    let passed = passed_then s t u walked.passed asks.passed in
     record {
-      passed = passed_then s u v passed part.passed;
-      shows = faulted_then (Mid at rows next) fault s u v (λ a b m. m.0) passed (mid s t u at rows next walked asks) part.shows;
+      passed = passed_then (is_failure fault) s u v (passed_then false s t u walked.passed asks.passed) part.passed;
+      shows = as_before_then (Mid at rows next) s u v (λ a b m. m.0) (mid s t u at rows next walked asks) part.shows;
     }
 
 pub walk_smaller : (t u v : Store) (at : PkFrom) (rows rows' : Rows) (next : Next) (pk : List ℕ) (r : Result (Unit {0}) ReadFault) → AsksNext t at (Ok next) u → ReadsPartition u pk rows r rows' v → 2 ^ 62 - v.calls < 2 ^ 62 - t.calls
 walk_smaller t u v at rows rows' next pk r asks part = fewer t u v asks.shows.0 asks.shows.1.0 part.passed.calls
 
-pub walk_no_text : (s : Store) → Reads s (Err NoMemory) s
+pub walk_no_text : (s : Store) → ReadsStore s (Err NoMemory) s
 walk_no_text s = record {
-  passed = record { number = refl; calls = omega arith; faults = omega arith };
+  passed = none_passed s;
   shows = onward_start Same s.told (λ a. refl);
 }

@@ -14,8 +14,8 @@ use Rattle.mt_meta.specs.Sound.{IsSound, HaveForms, AreMarked, AreTags, AreKept,
 use Rattle.mt_meta.proofs.Rules.{old_none, new_none}
 use Rattle.mt_open.specs.declared.damage.Rule.{Rule}
 use Rattle.mt_open.specs.declared.damage.Rule.TheVariants as rule
-use Rattle.mt_open.specs.declared.damage.Side.{Side}
-use Rattle.mt_open.specs.declared.damage.Side.TheVariants.{Old, New}
+use Rattle.mt_chain.specs.declared.ask.Side.{Side}
+use Rattle.mt_chain.specs.declared.ask.Side.TheVariants.{Old, New}
 use Rattle.mt_open.specs.Damage.{Place, number_of, contents_of, row_in, marker_of, IsMarkerIn, IsRowIn, HasForm, FailsKept, FailsOwn, RowFails, FailsAt}
 use Rattle.mt_open.proofs.Deciding.{Either, stable, form_or_not, same_numbers as cases_numbers, same_texts as cases_texts}
 

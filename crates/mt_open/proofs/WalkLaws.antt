@@ -2,26 +2,26 @@
 use Rattle.std.proofs.Common.{◌≡◌, ◌≢◌, ◌⊎◌, inl, inr, ◌+◌, ◌<◌, ◌≤◌, Bool, true, false, cond, ◌||◌, List, [], ◌∷◌, ◌++◌, map, length, filter, option_map, Option, Some, None, refl, sym, ap, subst, ◌∙◌, arith, bytes_eq, is_some, Less, Equal, Greater, Ordering}
 use Rattle.std.proofs.lemmas.Bool.{and_parts}
 use Rattle.std.specs.Prelude.{IsTrue}
-use Rattle.std.specs.List.{AllByRecursion, find, slice_get}
+use Rattle.std.specs.List.{AllByRecursion, slice_get}
 use Rattle.std.specs.List.Sorted.{IsStrictlySortedBy}
 use Rattle.std.specs.Ordering.{is_lt, is_le, is_eq, eq_by_cmp}
 use Rattle.std.specs.FinMap.Entries.{find as row_of, find-where_key, below_all}
-use Rattle.std.specs.Option.{option_or}
-use Rattle.std.proofs.lemmas.List.Folds.{find-append}
 use Rattle.mt_model.specs.declared.key.Key.{Key}
 use Rattle.mt_model.specs.declared.entity.Entity.{Entity}
 use Rattle.mt_model.specs.Key.{key_cmp}
 use Rattle.mt_model.specs.Entities.{RisingKeys}
 use Rattle.mt_chain.specs.declared.row.Stored.{Stored}
-use Rattle.mt_chain.specs.Rows.{Rows, are_rising, key_at}
+use Rattle.mt_chain.specs.Rows.{Rows, are_rising}
 use Rattle.mt_chain.proofs.KeyLaws.{key_total, key_ties}
 use Rattle.mt_chain.proofs.OrderLaws.{lt_less, eq_equal, reversed}
-use Rattle.mt_chain.proofs.SearchLaws.{head_below}
+use Rattle.mt_chain.specs.Table.{IsListing, rows_of, table_of}
+use Rattle.mt_chain.proofs.SearchLaws.{head_below, sorted_rising}
 use Rattle.mt_meta.specs.Markers.{marker_key}
 use Rattle.mt_meta.specs.Logical.{Pair, Shown, OldState, NoOld, AtUseOld, AtPreferOld, AtPreferNew, BadOld, NewState, NoNew, AtFilling, AtUseNew, BadNew, old_at, new_at, old_state_at, new_state_at, row_by, logical}
+use Rattle.mt_meta.specs.Steps.{as_row, logical_table}
 use Rattle.mt_open.proofs.RepeatLaws.{self_tied}
 use Rattle.mt_open.proofs.ReadingLists.{rising_filter}
-use Rattle.mt_open.specs.Table.{entity_by, entity_at, shown_at, IsTableOf, with_one}
+use Rattle.mt_open.specs.Table.{entity_by, entity_at, with_one}
 use Rattle.mt_open.specs.Walk.{has_row, has_key, IsAtMost, IsFirstKey, rows_past}
 
 abbrev pub Entry : Type 0
@@ -212,7 +212,7 @@ pub record Tabled (p : Pair) (es : List Entity) (old new : Rows) : Type 0 where
   pub old_rising : are_rising old ≡ true
   pub new_rising : are_rising new ≡ true
   pub below : (key : Key) → has_key old new key ≡ true → AllBelow key es
-  pub shown : (key : Key) → has_key old new key ≡ false → shown_at es key.pk key.rk ≡ logical p key.pk key.rk
+  pub shown : (key : Key) → has_key old new key ≡ false → table_of (rows_of es) key ≡ logical_table p key
 
 -- where neither store has a row, clients see none
 none_by : (o : OldState) (n : NewState) → row_by o n None None ≡ None
@@ -263,11 +263,18 @@ tabled_start p low high = record {
   old_rising = low;
   new_rising = high;
   below = λ key has. tt;
-  shown = λ key has. sym (none_seen p key has);
+  shown = λ key has. sym (ap (option_map as_row) (none_seen p key has));
 }
 
-pub tabled_end : (p : Pair) (es : List Entity) (old new : Rows) → Tabled p es old new → IsFirstKey old new None → IsTableOf p es
-tabled_end p es old new h none pk rk = h.shown (key_at pk rk) (none (key_at pk rk))
+listed_keys : (es : List Entity) → map (λ (x : Entry). x.0) (rows_of es) ≡ map (λ (e : Entity). e.key) es
+listed_keys [] = refl
+listed_keys (e ∷ es) = ap (λ ks. e.key ∷ ks) (listed_keys es)
+
+pub tabled_end : (p : Pair) (es : List Entity) (old new : Rows) → Tabled p es old new → IsFirstKey old new None → IsListing es (logical_table p)
+tabled_end p es old new h none = record {
+  rising = sorted_rising (rows_of es) (subst (IsStrictlySortedBy key_cmp) (sym (listed_keys es)) h.rising);
+  rows = λ key. h.shown key (none key);
+}
 
 -- ---- one entity more
 
@@ -283,28 +290,22 @@ below_push : (key : Key) (es : List Entity) (e : Entity) → AllBelow key es →
 below_push key [] e below less = (less, tt)
 below_push key (d ∷ es) e below less = (below.0, below_push key es e below.1 less)
 
-abbrev at_key : Key → Entity → Bool
-at_key key e = eq_by_cmp key_cmp key e.key
-
-abbrev show : Option Entity → Option Shown
-show o = option_map (λ (e : Entity). record { props = e.props; tag = e.tag }) o
+-- an entity as what a table has at its key
+abbrev stored_of : Entity → Stored
+stored_of e = record { props = e.props; tag = e.tag }
 
 -- no entity has a key that they are all below
-not_found : (key : Key) (es : List Entity) → AllBelow key es → find (at_key key) es ≡ None
+not_found : (key : Key) (es : List Entity) → AllBelow key es → table_of (rows_of es) key ≡ None
 not_found key [] below = refl
-not_found key (e ∷ es) below = ap (λ o. cond (is_eq o) (Some e) (find (at_key key) es)) (reversed e.key key Less below.0) ∙ not_found key es below.1
+not_found key (e ∷ es) below = ap (λ o. cond (is_eq o) (Some (stored_of e)) (table_of (rows_of es) key)) (reversed e.key key Less below.0) ∙ not_found key es below.1
 
-found_new : (key : Key) (es : List Entity) (e : Entity) → AllBelow key es → e.key ≡ key → shown_at (es ++ e ∷ []) key.pk key.rk ≡ Some (record { props = e.props; tag = e.tag })
-found_new key es e below same =
-    ap show (find-append (at_key key) es (e ∷ []) ∙ ap (λ o. option_or o (find (at_key key) (e ∷ []))) (not_found key es below)
-    ∙ ap (λ b. cond b (Some e) None) (subst (λ k. eq_by_cmp key_cmp key k ≡ true) (sym same) (self_found key)))
+found_new : (key : Key) (es : List Entity) (e : Entity) → AllBelow key es → e.key ≡ key → table_of (rows_of (es ++ e ∷ [])) key ≡ Some (stored_of e)
+found_new key [] e below same = ap (λ b. cond b (Some (stored_of e)) None) (subst (λ k. eq_by_cmp key_cmp key k ≡ true) (sym same) (self_found key))
+found_new key (d ∷ es) e below same = ap (λ o. cond (is_eq o) (Some (stored_of d)) (table_of (rows_of (es ++ e ∷ [])) key)) (reversed d.key key Less below.0) ∙ found_new key es e below.1 same
 
-found_before : (key : Key) (es : List Entity) (e : Entity) → eq_by_cmp key_cmp key e.key ≡ false → shown_at (es ++ e ∷ []) key.pk key.rk ≡ shown_at es key.pk key.rk
-found_before key es e other =
-    ap show (find-append (at_key key) es (e ∷ []) ∙ ap (λ b. option_or (find (at_key key) es) (cond b (Some e) None)) other ∙ or_none (find (at_key key) es)) where
-      or_none : (o : Option Entity) → option_or o None ≡ o
-      or_none None = refl
-      or_none (Some x) = refl
+found_before : (key : Key) (es : List Entity) (e : Entity) → eq_by_cmp key_cmp key e.key ≡ false → table_of (rows_of (es ++ e ∷ [])) key ≡ table_of (rows_of es) key
+found_before key [] e other = ap (λ b. cond b (Some (stored_of e)) None) other
+found_before key (d ∷ es) e other = ap (λ o. cond (eq_by_cmp key_cmp key d.key) (Some (stored_of d)) o) (found_before key es e other)
 
 differs : (a b : Key) → a ≢ b → eq_by_cmp key_cmp a b ≡ false
 differs a b ne = go (eq_by_cmp key_cmp a b) refl where
@@ -357,9 +358,9 @@ tabled_more p es old new m h first = go (logical p m.pk m.rk) refl where
     old_rising = past_rising m old h.old_rising;
     new_rising = past_rising m new h.new_rising;
     below = λ key has. h.below key (left key has).1;
-    shown = λ key has. elim (gone key has) as (λ _. shown_at es key.pk key.rk ≡ logical p key.pk key.rk) [
+    shown = λ key has. elim (gone key has) as (λ _. table_of (rows_of es) key ≡ logical_table p key) [
       | inl none ↦ h.shown key none
-      | inr same ↦ subst (λ k. shown_at es k.pk k.rk ≡ logical p k.pk k.rk) (sym same) (ap show (not_found m es under) ∙ sym seen)
+      | inr same ↦ subst (λ k. table_of (rows_of es) k ≡ logical_table p k) (sym same) (not_found m es under ∙ sym (ap (option_map as_row) seen))
     ];
   }
   go (Some s) seen = let e : Entity = record { key = m; props = s.props; tag = s.tag } in record {
@@ -367,8 +368,8 @@ tabled_more p es old new m h first = go (logical p m.pk m.rk) refl where
     old_rising = past_rising m old h.old_rising;
     new_rising = past_rising m new h.new_rising;
     below = λ key has. below_push key es e (h.below key (left key has).1) (lt_less _ (left key has).0);
-    shown = λ key has. elim (gone key has) as (λ _. shown_at (es ++ e ∷ []) key.pk key.rk ≡ logical p key.pk key.rk) [
+    shown = λ key has. elim (gone key has) as (λ _. table_of (rows_of (es ++ e ∷ [])) key ≡ logical_table p key) [
       | inl none ↦ found_before key es e (differs key m (apart key none)) ∙ h.shown key none
-      | inr same ↦ subst (λ k. shown_at (es ++ e ∷ []) k.pk k.rk ≡ logical p k.pk k.rk) (sym same) (found_new m es e under refl ∙ sym seen)
+      | inr same ↦ subst (λ k. table_of (rows_of (es ++ e ∷ [])) k ≡ logical_table p k) (sym same) (found_new m es e under refl ∙ sym (ap (option_map as_row) seen))
     ];
   }

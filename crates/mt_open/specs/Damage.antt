@@ -17,8 +17,8 @@ use Rattle.mt_meta.specs.Logical.{Pair, AtUseOld, AtPreferOld, AtPreferNew, AtFi
 use Rattle.mt_meta.specs.Sound.{IsOldMarker, IsNewMarker, IsOldRow, IsEntry, IsCopyOrNone}
 use Rattle.mt_open.specs.declared.damage.Rule.{Rule}
 use Rattle.mt_open.specs.declared.damage.Rule.TheVariants as rule
-use Rattle.mt_open.specs.declared.damage.Side.{Side}
-use Rattle.mt_open.specs.declared.damage.Side.TheVariants.{Old, New}
+use Rattle.mt_chain.specs.declared.ask.Side.{Side}
+use Rattle.mt_chain.specs.declared.ask.Side.TheVariants.{Old, New}
 use Rattle.mt_open.specs.declared.damage.Damage.{Damage}
 
 -- the number of a rule

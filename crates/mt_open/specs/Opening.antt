@@ -1,10 +1,12 @@
 -- Two stores that are opened as one table.
-use Rattle.std.specs.Prelude.{◌≡◌, ◌⊎◌, ℕ, List, Result, Ok, Err, IfSome}
+use Rattle.std.specs.Prelude.{◌≡◌, ◌⊎◌, ℕ, ◌≤◌, Bool, true, false, List, Result, Ok, Err}
 use Rattle.mt_model.specs.declared.entity.Entity.{Entity}
 use Rattle.mt_model.specs.declared.key.Key.{Key}
-use Rattle.mt_chain.specs.Store.{Store, Onward, Rose, Same}
-use Rattle.mt_meta.specs.Logical.{Pair}
+use Rattle.mt_chain.specs.Table.{IsListing}
+use Rattle.mt_chain.specs.Store.{Store, Onward, FaultsBy}
+use Rattle.mt_meta.specs.Logical.{Pair, ForPair}
 use Rattle.mt_meta.specs.Sound.{IsSound}
+use Rattle.mt_meta.specs.Steps.{logical_table}
 use Rattle.mt_open.specs.declared.damage.Rule.{Rule}
 use Rattle.mt_open.specs.declared.damage.Damage.{Damage}
 use Rattle.mt_open.specs.declared.reading.ReadFault.{ReadFault}
@@ -12,18 +14,25 @@ use Rattle.mt_open.specs.declared.reading.ReadFault.TheVariants as read
 use Rattle.mt_open.specs.declared.opening.OpenFault.{OpenFault}
 use Rattle.mt_open.specs.declared.opening.OpenFault.TheVariants.{Damaged, StoreFault, NoMemory}
 use Rattle.mt_open.specs.Held.{Held}
-use Rattle.mt_open.specs.Reading.{Passed, Faulted}
+use Rattle.mt_open.specs.Reading.{has_failed, Passed, AsBefore}
 use Rattle.mt_open.specs.Damage.{rule_number, IsDamage}
-use Rattle.mt_open.specs.Table.{IsTableOf}
 
 -- calls were made of a store: its number and its contents stay, and no count falls
 pub record Stays (s t : Store) : Type 0 where
-  pub passed : Passed s t
-  pub contents : Onward Same s.told t.told
+  pub number : t.number ≡ s.number
+  pub calls : s.calls ≤ t.calls
+  pub faults : s.faults ≤ t.faults
+  pub contents : AsBefore s t
 
--- what two stores tell as a pair, where both tell
-abbrev pub ForPair : Store → Store → (Pair → Type 0) → Type 0
-ForPair s t P = IfSome s.told (λ a. IfSome t.told (λ b. P (record { old_number = s.number; new_number = t.number; old = a; new = b })))
+-- a store failed
+abbrev pub is_store_fault : Result (List Entity) OpenFault → Bool
+is_store_fault (Err StoreFault) = true
+is_store_fault r = false
+
+-- where a store failed the count of faults of one of the two rose, and that of the other stayed; else both stayed
+abbrev pub OpenFaults : Bool → Store → Store → Store → Store → Type 0
+OpenFaults true s s' t t' = (FaultsBy true s t × FaultsBy false s' t') ⊎ (FaultsBy false s t × FaultsBy true s' t')
+OpenFaults false s s' t t' = FaultsBy false s t × FaultsBy false s' t'
 
 -- where two stores are first damaged, by the number of the rule
 abbrev pub IsDamagedAt : Pair → ℕ → Key → ℕ → Type 0
@@ -31,32 +40,33 @@ IsDamagedAt p store key number = (r : Rule) × (number ≡ rule_number r) × IsD
 
 -- the logical table of a sound pair, or the first damage of one that is not; want of memory is free
 abbrev pub Finds : Pair → Result (List Entity) OpenFault → Type 0
-Finds p (Ok es) = IsSound p × IsTableOf p es
+Finds p (Ok es) = IsSound p × IsListing es (logical_table p)
 Finds p (Err (Damaged store key number)) = IsDamagedAt p store key number
 Finds p (Err StoreFault) = ⊥
 Finds p (Err NoMemory) = Unit {0}
 
--- what is found of the pair that both stores tell; a fault of a store only where a count of faults rose
-abbrev pub OpenShows : Result (List Entity) OpenFault → Store → Store → Store → Store → Type 0
-OpenShows (Err StoreFault) s s' t t' = Rose s.faults t.faults ⊎ Rose s'.faults t'.faults
-OpenShows r s s' t t' = ForPair t t' (λ p. Finds p r)
+-- what is found of the pair, where both stores tell
+abbrev pub OpenShows : Result (List Entity) OpenFault → Store → Store → Type 0
+OpenShows (Err StoreFault) t t' = Unit {0}
+OpenShows r t t' = ForPair t.number t'.number t.told t'.told (λ p. Finds p r)
 
 -- what comes of opening two stores
-pub record Opens (s s' : Store) (r : Result (List Entity) OpenFault) (t t' : Store) : Type 0 where
+pub record OpensPair (s s' : Store) (r : Result (List Entity) OpenFault) (t t' : Store) : Type 0 where
   pub old_stays : Stays s t
   pub new_stays : Stays s' t'
-  pub shows : OpenShows r s s' t t'
+  pub faults : OpenFaults (is_store_fault r) s s' t t'
+  pub shows : OpenShows r t t'
 
 -- ---- one store
 
 -- a store as it was read, with its number, or why it was not
 abbrev pub HoldShows : Result Held ReadFault → Store → Store → Type 0
 HoldShows (Ok held) s t = (held.number ≡ t.number) × Onward (λ before after. (after ≡ before) × (held.contents ≡ before)) s.told t.told
-HoldShows (Err fault) s t = Faulted fault s t
+HoldShows (Err fault) s t = AsBefore s t
 
 -- what comes of reading a store with its number
-pub record Holds (s : Store) (r : Result Held ReadFault) (t : Store) : Type 0 where
-  pub passed : Passed s t
+pub record HoldsStore (s : Store) (r : Result Held ReadFault) (t : Store) : Type 0 where
+  pub passed : Passed (has_failed r) s t
   pub shows : HoldShows r s t
 
 abbrev pub fault_of : ReadFault → OpenFault

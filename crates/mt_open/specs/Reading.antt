@@ -1,5 +1,5 @@
 -- A store that is read whole: what the parts of the reading say.
-use Rattle.std.specs.Prelude.{◌≡◌, ℕ, ◌≤◌, Bool, true, not, ◌&&◌, IsTrue, bytes_eq, List, [], ◌∷◌, ◌++◌, map, Option, None, Some, option_map, Result, Ok, Err, if◌then◌else◌}
+use Rattle.std.specs.Prelude.{◌≡◌, ℕ, ◌≤◌, Bool, true, false, not, ◌&&◌, IsTrue, bytes_eq, List, [], ◌∷◌, ◌++◌, map, Option, None, Some, option_map, Result, Ok, Err, if◌then◌else◌}
 use Rattle.std.specs.List.{AllByRecursion}
 use Rattle.std.specs.List.Sorted.{IsStrictlySortedBy}
 use Rattle.std.specs.Ordering.{nat_cmp}
@@ -7,6 +7,7 @@ use Rattle.std.specs.Cmp.Lexicographic.{slice_cmp}
 use Rattle.std.specs.FinMap.Entries.{where_key}
 use Rattle.mt_model.specs.declared.key.Key.{Key}
 use Rattle.mt_model.specs.Key.{key_cmp}
+use Rattle.mt_chain.specs.declared.row.Stored.{Stored}
 use Rattle.mt_chain.specs.declared.row.StoredRow.{StoredRow}
 use Rattle.mt_chain.specs.declared.query.RkFrom.{RkFrom}
 use Rattle.mt_chain.specs.declared.query.RkFrom.TheVariants.{After}
@@ -18,43 +19,57 @@ use Rattle.mt_chain.specs.declared.query.Next.{Next}
 use Rattle.mt_chain.specs.Rows.{Rows, key_at, are_rising, is_from}
 use Rattle.mt_chain.specs.Places.{is_before, is_passed}
 use Rattle.mt_chain.specs.StoreCall.{Contents}
-use Rattle.mt_chain.specs.Store.{Store, Onward, Rose, Counted, Same, Queried, NextShows}
+use Rattle.mt_chain.specs.Store.{Store, Onward, FaultsBy, Counted, Same, Queried, NextShows}
 use Rattle.mt_open.specs.declared.reading.Loaded.{Loaded}
 use Rattle.mt_open.specs.declared.reading.ReadFault.{ReadFault}
 use Rattle.mt_open.specs.declared.reading.ReadFault.TheVariants.{Failed, NoMemory}
 
 -- ---- the whole reading
 
--- any calls were made of a store: its number stays, and no count falls
-pub record Passed (s t : Store) : Type 0 where
+-- the fault is one of the store
+abbrev pub is_failure : ReadFault → Bool
+is_failure Failed = true
+is_failure NoMemory = false
+
+-- the store failed
+abbrev pub has_failed : {A : Type 0} → Result A ReadFault → Bool
+has_failed (Ok a) = false
+has_failed (Err fault) = is_failure fault
+
+-- any calls were made of a store, of which the last failed or none did: its number stays, no count falls, and that of faults rises where one failed alone
+pub record Passed (failed : Bool) (s t : Store) : Type 0 where
   pub number : t.number ≡ s.number
   pub calls : s.calls ≤ t.calls
-  pub faults : s.faults ≤ t.faults
+  pub grew : s.faults ≤ t.faults
+  pub faults : FaultsBy failed s t
 
--- the contents are as before, and where it failed its count of faults rose
-abbrev pub Faulted : ReadFault → Store → Store → Type 0
-Faulted Failed s t = Rose s.faults t.faults × Onward Same s.told t.told
-Faulted NoMemory s t = Onward Same s.told t.told
+-- the contents are as before
+abbrev pub AsBefore : Store → Store → Type 0
+AsBefore s t = Onward Same s.told t.told
 
 -- all that the store holds was read, and nothing changed
 abbrev pub IsRead : Rows → Bool → Contents → Contents → Type 0
 IsRead rows sealed before after = (after ≡ before) × (rows ≡ before.rows) × (sealed ≡ before.sealed)
 
--- what was read: keys that rise, and where the store tells, what it holds
+-- what was read: where the store tells, what it holds
 abbrev pub ReadShows : Result Loaded ReadFault → Store → Store → Type 0
-ReadShows (Ok loaded) s t = IsTrue (are_rising loaded.rows.items) × Onward (IsRead loaded.rows.items loaded.sealed) s.told t.told
-ReadShows (Err fault) s t = Faulted fault s t
+ReadShows (Ok loaded) s t = Onward (IsRead loaded.rows loaded.sealed) s.told t.told
+ReadShows (Err fault) s t = AsBefore s t
 
 -- what comes of reading a store
-pub record Reads (s : Store) (r : Result Loaded ReadFault) (t : Store) : Type 0 where
-  pub passed : Passed s t
+pub record ReadsStore (s : Store) (r : Result Loaded ReadFault) (t : Store) : Type 0 where
+  pub passed : Passed (has_failed r) s t
   pub shows : ReadShows r s t
 
 -- ---- a chunk of a partition
 
+-- a row of a partition with its key
+abbrev pub keyed_row : List ℕ → StoredRow → Key × Stored
+keyed_row pk row = (key_at pk row.rk, record { props = row.props; tag = row.tag })
+
 -- the rows of a partition with their keys
 abbrev pub keyed : List ℕ → List StoredRow → Rows
-keyed pk rows = map (λ r. (key_at pk r.rk, record { props = r.props; tag = r.tag })) rows
+keyed pk rows = map (keyed_row pk) rows
 
 -- what is asked for: the first hundred rows of a partition from a place on
 abbrev pub chunk_query : List ℕ → RkFrom → RangeQuery
@@ -79,16 +94,16 @@ pub record TakesChunk (s : Store) (pk : List ℕ) (from : RkFrom) (old now : Row
 
 abbrev pub ChunkShows : Store → List ℕ → RkFrom → Rows → Result (Option RkFrom) ReadFault → Rows → Store → Type 0
 ChunkShows s pk from old (Ok place) now t = (found : Found) × TakesChunk s pk from old now place found t
-ChunkShows s pk from old (Err fault) now t = Faulted fault s t
+ChunkShows s pk from old (Err fault) now t = AsBefore s t
 
 -- what comes of reading a chunk
 pub record ReadsChunk (s : Store) (pk : List ℕ) (from : RkFrom) (old : Rows) (r : Result (Option RkFrom) ReadFault) (now : Rows) (t : Store) : Type 0 where
-  pub passed : Passed s t
+  pub passed : Passed (has_failed r) s t
   pub shows : ChunkShows s pk from old r now t
 
 abbrev pub QueryShows : RangeQuery → Result Found ReadFault → Store → Store → Type 0
 QueryShows query (Ok found) s t = Counted s t × Queried query (Ok found) s t
-QueryShows query (Err fault) s t = Faulted fault s t
+QueryShows query (Err fault) s t = AsBefore s t
 
 -- ---- a partition
 
@@ -110,17 +125,17 @@ is_in pk key = bytes_eq pk key.pk
 
 -- a partition was read up to a place in it
 pub record ReadUpTo (s : Store) (pk : List ℕ) (old : Rows) (from : RkFrom) (now : Rows) (t : Store) : Type 0 where
-  pub passed : Passed s t
+  pub passed : Passed false s t
   pub shape : AllPass (is_before pk from) now
   pub told : Onward (IsReadTo old (is_before_in pk from) now) s.told t.told
 
 abbrev pub PartitionShows : Store → List ℕ → Rows → Result (Unit {0}) ReadFault → Rows → Store → Type 0
 PartitionShows s pk old (Ok u) now t = AllPass (is_passed (start.After pk)) now × Onward (IsReadTo old (is_in pk) now) s.told t.told
-PartitionShows s pk old (Err fault) now t = Faulted fault s t
+PartitionShows s pk old (Err fault) now t = AsBefore s t
 
 -- what comes of reading a partition
 pub record ReadsPartition (s : Store) (pk : List ℕ) (old : Rows) (r : Result (Unit {0}) ReadFault) (now : Rows) (t : Store) : Type 0 where
-  pub passed : Passed s t
+  pub passed : Passed (has_failed r) s t
   pub shows : PartitionShows s pk old r now t
 
 -- whether it is Ok, or else the fault
@@ -132,15 +147,15 @@ without_value (Err fault) = Err fault
 
 abbrev pub NextReads : PkFrom → Result Next ReadFault → Store → Store → Type 0
 NextReads at (Ok next) s t = Counted s t × NextShows at (Ok next) s t
-NextReads at (Err fault) s t = Faulted fault s t
+NextReads at (Err fault) s t = AsBefore s t
 
 -- what comes of asking for the next partition
 pub record AsksNext (s : Store) (at : PkFrom) (r : Result Next ReadFault) (t : Store) : Type 0 where
-  pub passed : Passed s t
+  pub passed : Passed (has_failed r) s t
   pub shows : NextReads at r s t
 
 -- the partitions before a place were read
 pub record Walked (s : Store) (at : PkFrom) (rows : Rows) (t : Store) : Type 0 where
-  pub passed : Passed s t
+  pub passed : Passed false s t
   pub shape : AllPass (is_passed at) rows
   pub told : Onward (IsReadTo [] (is_passed at) rows) s.told t.told

@@ -6,8 +6,8 @@ use Rattle.mt_model.specs.declared.key.Key.{Key}
 use Rattle.mt_chain.specs.declared.row.Stored.{Stored}
 use Rattle.mt_chain.specs.Rows.{Rows, are_rising}
 use Rattle.mt_meta.specs.Logical.{Pair}
-use Rattle.mt_open.specs.declared.damage.Side.{Side}
-use Rattle.mt_open.specs.declared.damage.Side.TheVariants.{Old, New}
+use Rattle.mt_chain.specs.declared.ask.Side.{Side}
+use Rattle.mt_chain.specs.declared.ask.Side.TheVariants.{Old, New}
 use Rattle.mt_open.specs.declared.tags.Repeats.{Repeats}
 use Rattle.mt_open.specs.Damage.{number_of, contents_of, row_in}
 

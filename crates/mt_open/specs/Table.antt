@@ -1,11 +1,8 @@
 -- The rows of the logical table of two stores, as entities.
-use Rattle.std.specs.Prelude.{◌≡◌, ℕ, List, [], ◌∷◌, ◌++◌, find, Option, Some, None, option_map}
-use Rattle.std.specs.Ordering.{eq_by_cmp}
+use Rattle.std.specs.Prelude.{List, [], ◌∷◌, ◌++◌, Option, Some, None}
 use Rattle.mt_model.specs.declared.key.Key.{Key}
 use Rattle.mt_model.specs.declared.entity.Entity.{Entity}
-use Rattle.mt_model.specs.Key.{key_cmp}
 use Rattle.mt_chain.specs.declared.row.Stored.{Stored}
-use Rattle.mt_chain.specs.Rows.{key_at}
 use Rattle.mt_meta.specs.declared.marker.Phase.{Phase}
 use Rattle.mt_meta.specs.declared.marker.Phase.TheVariants.{UseOld, PreferOld, PreferNew}
 use Rattle.mt_meta.specs.declared.marker.NewPhase.{NewPhase}
@@ -19,14 +16,6 @@ entity_by key (Some s) = Some (record { key = key; props = s.props; tag = s.tag 
 
 abbrev pub entity_at : Pair → Key → Option Entity
 entity_at p key = entity_by key (logical p key.pk key.rk)
-
--- what a list of entities shows at a key
-abbrev pub shown_at : List Entity → List ℕ → List ℕ → Option Shown
-shown_at es pk rk = option_map (λ (e : Entity). record { props = e.props; tag = e.tag }) (find (λ (e : Entity). eq_by_cmp key_cmp (key_at pk rk) e.key) es)
-
--- the list shows at every key what the logical table shows there
-abbrev pub IsTableOf : Pair → List Entity → Type 0
-IsTableOf p es = (pk rk : List ℕ) → shown_at es pk rk ≡ logical p pk rk
 
 -- the list with one more entity after it, or none
 abbrev pub with_one : List Entity → Option Entity → List Entity

@@ -43,13 +43,6 @@ impl Rule {
     }
 }
 
-/// One of the two stores.
-#[derive(Clone, Copy, Debug, PartialEq, Eq)]
-pub enum Side {
-    Old,
-    New,
-}
-
 /// Where two stores fail a rule of a sound pair.
 #[derive(Debug, Drop, PartialEq, Eq)]
 pub struct Damage {

@@ -4,18 +4,18 @@ ghost use Rattle.std.specs.Ordering.{is_le};
 ghost use Rattle.mt_model.specs.Key.{key_cmp};
 ghost use Rattle.mt_chain.specs.Rows.{key_at};
 ghost use Rattle.mt_meta.specs.Sound.{IsSound};
-ghost use Rattle.mt_open.specs.declared.damage.Side.{Side};
+ghost use Rattle.mt_chain.specs.declared.ask.Side.{Side};
 ghost use Rattle.mt_open.specs.declared.damage.Rule.{Rule};
 ghost use Rattle.mt_open.specs.Damage.{RowFails, IsLeastIn, IsFirstAt, IsFirstBy, IsFirstByRows, IsDamage, all_rules, rule_number};
-ghost use Rattle.mt_open.specs.Holdings.{pair_of};
+ghost use Rattle.mt_open.specs.Holdings.{pair_in};
 ghost use Rattle.mt_open.specs.Repeats.{AreRepeats, Stands};
 
-use crate::damage::{Damage, Rule, Side};
+use crate::damage::{Damage, Rule};
 use crate::forms::has_form;
 use crate::holdings::Holdings;
 use crate::phases::{fails_by_markers, fails_marked};
 use crate::tags::{Repeats, fails_tags};
-use mt_chain::Stored;
+use mt_chain::{Row, Side};
 use mt_model::{Key, NoMemory, Text};
 use std::alloc::Global;
 use std::cmp::Ordering;
@@ -27,10 +27,10 @@ fn fails(
     repeats: &Repeats,
     rule: Rule,
     side: Side,
-    row: &(Key, Stored),
+    row: &Row,
 ) -> Result<bool, NoMemory>
-    requires { Stands (pair_of stores.now) repeats.now side row.now.0 row.now.1 }
-    ensures { IfOk result (λ b. IsTrue b ↔ RowFails (pair_of stores.now) rule side row.now.0 row.now.1) }
+    requires { Stands (pair_in stores.now) repeats.now side row.now.0 row.now.1 }
+    ensures { IfOk result (λ b. IsTrue b ↔ RowFails (pair_in stores.now) rule side row.now.0 row.now.1) }
 {
     let (key, stored) = row;
     match rule {
@@ -53,8 +53,8 @@ fn least_in<'a>(
     rule: Rule,
     side: Side,
 ) -> Result<Option<&'a Key>, NoMemory>
-    requires { AreRepeats (pair_of stores.now) repeats.now }
-    ensures { IfOk result (λ key. IsLeastIn (pair_of stores.now) rule side (option_copied key)) }
+    requires { AreRepeats (pair_in stores.now) repeats.now }
+    ensures { IfOk result (λ key. IsLeastIn (pair_in stores.now) rule side (option_copied key)) }
 {
     for row in stores.rows_on(side) {
         if fails(alloc, stores, repeats, rule, side, row)? {
@@ -78,8 +78,8 @@ fn damage_at(
     side: Side,
     key: &Key,
 ) -> Result<Option<Damage>, NoMemory>
-    requires { IsFirstAt (pair_of stores.now) rule side key.now }
-    ensures { IfOk result (λ d. IsFirstBy (pair_of stores.now) rule d) }
+    requires { IsFirstAt (pair_in stores.now) rule side key.now }
+    ensures { IfOk result (λ d. IsFirstBy (pair_in stores.now) rule d) }
 {
     let key = key.copy(alloc)?;
     let store = stores.on(side).number();
@@ -94,9 +94,9 @@ fn first_of(
     old: Option<&Key>,
     new: Option<&Key>,
 ) -> Result<Option<Damage>, NoMemory>
-    requires { IsLeastIn (pair_of stores.now) rule Side.Old (option_copied old)
-        × IsLeastIn (pair_of stores.now) rule Side.New (option_copied new) }
-    ensures { IfOk result (λ d. IsFirstBy (pair_of stores.now) rule d) }
+    requires { IsLeastIn (pair_in stores.now) rule Side.Old (option_copied old)
+        × IsLeastIn (pair_in stores.now) rule Side.New (option_copied new) }
+    ensures { IfOk result (λ d. IsFirstBy (pair_in stores.now) rule d) }
 {
     match (old, new) {
         (None, None) => Ok(None),
@@ -119,8 +119,8 @@ fn first_by(
     repeats: &Repeats,
     rule: Rule,
 ) -> Result<Option<Damage>, NoMemory>
-    requires { AreRepeats (pair_of stores.now) repeats.now }
-    ensures { IfOk result (λ d. IsFirstBy (pair_of stores.now) rule d) }
+    requires { AreRepeats (pair_in stores.now) repeats.now }
+    ensures { IfOk result (λ d. IsFirstBy (pair_in stores.now) rule d) }
 {
     let old = least_in(alloc, stores, repeats, rule, Side::Old)?;
     let new = least_in(alloc, stores, repeats, rule, Side::New)?;
@@ -142,8 +142,8 @@ fn first_by_rows(
     repeats: &Repeats,
     rules: &[Rule],
 ) -> Result<Option<Damage>, NoMemory>
-    requires { AreRepeats (pair_of stores.now) repeats.now × (rules.now ≡ all_rules) }
-    ensures { IfOk result (λ d. IsFirstByRows (pair_of stores.now) d) }
+    requires { AreRepeats (pair_in stores.now) repeats.now × (rules.now ≡ all_rules) }
+    ensures { IfOk result (λ d. IsFirstByRows (pair_in stores.now) d) }
 {
     for at in 0..rules.len() {
         let rule = rule_at(rules, at);
@@ -156,7 +156,7 @@ fn first_by_rows(
 
 /// The damage of a sealed new store.
 fn sealed_damage(alloc: Global, stores: &Holdings) -> Result<Damage, NoMemory>
-    ensures { IfOk result (λ d. (d.rule ≡ Rule.Unsealed) × (d.key ≡ key_at [] []) × (d.store ≡ (pair_of stores.now).new_number)) }
+    ensures { IfOk result (λ d. (d.rule ≡ Rule.Unsealed) × (d.key ≡ key_at [] []) × (d.store ≡ (pair_in stores.now).new_number)) }
 {
     let pk = Text::of(alloc, "")?;
     let rk = Text::of(alloc, "")?;
@@ -182,7 +182,7 @@ const RULES: [Rule; 8] = [
 /// the least key, and at equal keys old before new. `None` comes exactly where they are a sound pair.
 /// The one error is want of memory.
 pub fn first_damage(alloc: Global, stores: &Holdings) -> Result<Option<Damage>, NoMemory>
-    ensures { IfOk result (λ d. MatchOption d (IsSound (pair_of stores.now)) (IsDamage (pair_of stores.now))) }
+    ensures { IfOk result (λ d. MatchOption d (IsSound (pair_in stores.now)) (IsDamage (pair_in stores.now))) }
 {
     let repeats = Repeats::of(alloc, stores)?;
     if let Some(damage) = first_by_rows(alloc, stores, &repeats, &RULES)? {

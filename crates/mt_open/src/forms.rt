@@ -9,12 +9,11 @@ ghost use Rattle.mt_model.specs.Props.{is_visible};
 ghost use Rattle.mt_meta.specs.Markers.{marker_key};
 ghost use Rattle.mt_meta.specs.Sound.{IsOldMarker, IsNewMarker, IsOldRow, IsEntry};
 ghost use Rattle.mt_open.specs.Damage.{HasForm, IsMarkerIn, IsRowIn};
-ghost use Rattle.mt_open.specs.Holdings.{pair_of};
+ghost use Rattle.mt_open.specs.Holdings.{pair_in};
 
-use crate::damage::Side;
-use crate::holding::MARKER_KEY;
 use crate::holdings::Holdings;
-use mt_meta::{Mark, mark_of_props, new_phase_of_props, old_phase_of_props, stored};
+use mt_chain::Side;
+use mt_meta::{MARKER_KEY, Mark, mark_of_props, new_phase_of_props, old_phase_of_props, stored};
 use mt_model::{Key, KeyFault, NoMemory, Props, Text};
 use std::alloc::Global;
 
@@ -99,7 +98,7 @@ fn is_partition_key(alloc: Global, pk: &Text) -> Result<bool, NoMemory>
 }
 
 fn is_marker_in(stores: &Holdings, side: Side, props: &Props) -> bool
-    ensures { IsTrue result ↔ IsMarkerIn (pair_of stores.now) side props.now }
+    ensures { IsTrue result ↔ IsMarkerIn (pair_in stores.now) side props.now }
 {
     match side {
         Side::Old => is_old_marker(stores.old.number(), props),
@@ -108,7 +107,7 @@ fn is_marker_in(stores: &Holdings, side: Side, props: &Props) -> bool
 }
 
 fn is_row_in(alloc: Global, stores: &Holdings, side: Side, props: &Props) -> Result<bool, NoMemory>
-    ensures { IfOk result (λ b. IsTrue b ↔ IsRowIn (pair_of stores.now) side props.now) }
+    ensures { IfOk result (λ b. IsTrue b ↔ IsRowIn (pair_in stores.now) side props.now) }
 {
     match side {
         Side::Old => is_old_row(alloc, stores.old.number(), props),
@@ -123,7 +122,7 @@ fn is_marker_form(
     pk: &Text,
     props: &Props,
 ) -> Result<bool, NoMemory>
-    ensures { IfOk result (λ b. IsTrue b ↔ (IsMarkerIn (pair_of stores.now) side props.now × (part_fault KeyPart.Partition pk.now ≡ None))) }
+    ensures { IfOk result (λ b. IsTrue b ↔ (IsMarkerIn (pair_in stores.now) side props.now × (part_fault KeyPart.Partition pk.now ≡ None))) }
 {
     let keeps = is_partition_key(alloc, pk)?;
     Ok(keeps && is_marker_in(stores, side, props))
@@ -136,7 +135,7 @@ fn is_row_form(
     key: &Key,
     props: &Props,
 ) -> Result<bool, NoMemory>
-    ensures { IfOk result (λ b. IsTrue b ↔ (IsRowIn (pair_of stores.now) side props.now × (key_fault key.now.pk key.now.rk ≡ None))) }
+    ensures { IfOk result (λ b. IsTrue b ↔ (IsRowIn (pair_in stores.now) side props.now × (key_fault key.now.pk key.now.rk ≡ None))) }
 {
     let keeps = is_key(alloc, &key.pk, key.rk.as_str())?;
     let row = is_row_in(alloc, stores, side, props)?;
@@ -151,7 +150,7 @@ pub fn has_form(
     key: &Key,
     props: &Props,
 ) -> Result<bool, NoMemory>
-    ensures { IfOk result (λ b. IsTrue b ↔ HasForm (pair_of stores.now) side key.now props.now) }
+    ensures { IfOk result (λ b. IsTrue b ↔ HasForm (pair_in stores.now) side key.now props.now) }
 {
     if is_marker_key(&key.rk) {
         is_marker_form(alloc, stores, side, &key.pk, props)

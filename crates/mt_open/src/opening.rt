@@ -1,7 +1,7 @@
 //! Two stores opened as one table.
 ghost use Rattle.std.specs.Prelude.{◌≡◌};
-ghost use Rattle.mt_open.specs.Holdings.{pair_of};
-ghost use Rattle.mt_open.specs.Opening.{Holds, Opens, Finds, fault_of, damaged};
+ghost use Rattle.mt_open.specs.Holdings.{pair_in};
+ghost use Rattle.mt_open.specs.Opening.{HoldsStore, OpensPair, Finds, fault_of, damaged};
 
 use crate::damage::Damage;
 use crate::first::first_damage;
@@ -12,9 +12,6 @@ use crate::walk::logical_table;
 use mt_chain::Keeper;
 use mt_model::{Entities, Key, NoMemory};
 use std::alloc::Global;
-
-#[cfg(test)]
-mod tests;
 
 /// Why two stores were not opened.
 #[derive(Debug, Drop, PartialEq, Eq)]
@@ -46,7 +43,7 @@ impl From<NoMemory> for OpenFault {
 
 /// All that a store holds, with its number.
 fn hold<K: Keeper>(alloc: Global, keeper: &mut K) -> Result<Holding, ReadFault>
-    ensures { Holds (K.state keeper.old) result (K.state keeper.new) }
+    ensures { HoldsStore (K.state keeper.old) result (K.state keeper.new) }
 {
     match read_store(alloc, keeper) {
         Ok(loaded) => Ok(Holding::of(
@@ -80,12 +77,12 @@ fn damaged(damage: Damage) -> OpenFault
 
 /// The logical table of two stores that were read whole, or where they are first damaged.
 fn table_of(alloc: Global, stores: &Holdings) -> Result<Entities, OpenFault>
-    ensures { Finds (pair_of stores.now) result }
+    ensures { Finds (pair_in stores.now) result }
 {
     match first_damage(alloc, stores) {
         Ok(None) => Ok(logical_table(alloc, stores)?),
         Ok(Some(damage)) => Err(damaged(damage)),
-        Err(_) => Err(OpenFault::NoMemory),
+        Err(NoMemory) => Err(OpenFault::NoMemory),
     }
 }
 
@@ -94,14 +91,14 @@ fn table_of(alloc: Global, stores: &Holdings) -> Result<Entities, OpenFault>
 ///
 /// Rows come only of a sound pair. `Damaged` comes only of one that is not, with the first damage: by
 /// the rules in their order, then by the least key, and at equal keys old before new. `StoreFault`
-/// comes only where one of the two stores failed, and its count of faults rose. The contents of both
-/// stay as they were, whatever is answered.
+/// comes only where one of the two stores failed, and its count of faults rose; after every other answer
+/// both counts are as before. The contents of both stay as they were, whatever is answered.
 pub fn open_pair<K: Keeper>(
     alloc: Global,
     old_store: &mut K,
     new_store: &mut K,
 ) -> Result<Entities, OpenFault>
-    ensures { Opens (K.state old_store.old) (K.state new_store.old) result (K.state old_store.new) (K.state new_store.new) }
+    ensures { OpensPair (K.state old_store.old) (K.state new_store.old) result (K.state old_store.new) (K.state new_store.new) }
 {
     let old = match hold(alloc, old_store) {
         Ok(old) => old,

@@ -6,14 +6,14 @@ ghost use Rattle.mt_meta.specs.declared.mark.Mark.{Mark};
 ghost use Rattle.mt_meta.specs.Logical.{old_says, new_says, old_state, new_state};
 ghost use Rattle.mt_meta.specs.Sound.{IsCopyOrNone};
 ghost use Rattle.mt_open.specs.declared.damage.Rule.{Rule};
-ghost use Rattle.mt_open.specs.declared.damage.Side.{Side};
+ghost use Rattle.mt_chain.specs.declared.ask.Side.{Side};
 ghost use Rattle.mt_open.specs.Damage.{RowFails, SpeaksOfMarkers};
-ghost use Rattle.mt_open.specs.Holdings.{pair_of};
+ghost use Rattle.mt_open.specs.Holdings.{pair_in};
 
-use crate::damage::{Rule, Side};
+use crate::damage::Rule;
 use crate::forms::is_marker_key;
 use crate::holdings::Holdings;
-use mt_chain::Stored;
+use mt_chain::{Side, Stored};
 use mt_meta::{Mark, NewPhase, Phase, mark_of_props, new_phase_of_props, old_phase_of_props};
 use mt_model::{Key, Props};
 
@@ -48,21 +48,21 @@ fn is_tomb(props: &Props) -> bool
 
 /// Whether a row's partition has no marker in that store.
 pub fn fails_marked(stores: &Holdings, side: Side, key: &Key, row: &Stored) -> bool
-    ensures { IsTrue result ↔ RowFails (pair_of stores.now) Rule.Marked side key.now row.now }
+    ensures { IsTrue result ↔ RowFails (pair_in stores.now) Rule.Marked side key.now row.now }
 {
     stores.on(side).marker(&key.pk).is_none()
 }
 
 /// Whether a row of new is a marker where old is at `use-old`.
 fn fails_use_old(stores: &Holdings, key: &Key, row: &Stored) -> bool
-    ensures { IsTrue result ↔ RowFails (pair_of stores.now) Rule.UseOld Side.New key.now row.now }
+    ensures { IsTrue result ↔ RowFails (pair_in stores.now) Rule.UseOld Side.New key.now row.now }
 {
     is_marker_key(&key.rk) && has_old_phase(stores.old.marker(&key.pk), Phase::UseOld)
 }
 
 /// Whether a row of new is a marker that is not filling, or no copy, where old is at `prefer-old`.
 fn fails_prefer_old(stores: &Holdings, key: &Key, row: &Stored) -> bool
-    ensures { IsTrue result ↔ RowFails (pair_of stores.now) Rule.PreferOld Side.New key.now row.now }
+    ensures { IsTrue result ↔ RowFails (pair_in stores.now) Rule.PreferOld Side.New key.now row.now }
 {
     if !has_old_phase(stores.old.marker(&key.pk), Phase::PreferOld) {
         return false;
@@ -76,7 +76,7 @@ fn fails_prefer_old(stores: &Holdings, key: &Key, row: &Stored) -> bool
 
 /// Whether a row of old is a marker at `prefer-new` where new has none.
 fn fails_prefer_new(stores: &Holdings, key: &Key, row: &Stored) -> bool
-    ensures { IsTrue result ↔ RowFails (pair_of stores.now) Rule.PreferNew Side.Old key.now row.now }
+    ensures { IsTrue result ↔ RowFails (pair_in stores.now) Rule.PreferNew Side.Old key.now row.now }
 {
     is_marker_key(&key.rk)
         && has_old_phase(stores.old.marker(&key.pk), Phase::PreferNew)
@@ -86,7 +86,7 @@ fn fails_prefer_new(stores: &Holdings, key: &Key, row: &Stored) -> bool
 /// Whether a row of new is a tombstone, or a marker other than `use-new` beside a sealed old store,
 /// where old has no marker.
 fn fails_no_old(stores: &Holdings, key: &Key, row: &Stored) -> bool
-    ensures { IsTrue result ↔ RowFails (pair_of stores.now) Rule.NoOld Side.New key.now row.now }
+    ensures { IsTrue result ↔ RowFails (pair_in stores.now) Rule.NoOld Side.New key.now row.now }
 {
     if stores.old.marker(&key.pk).is_some() {
         return false;
@@ -101,7 +101,7 @@ fn fails_no_old(stores: &Holdings, key: &Key, row: &Stored) -> bool
 /// How a row of old fails one of the rules that speak of both stores' markers.
 fn fails_in_old(stores: &Holdings, rule: Rule, key: &Key, row: &Stored) -> bool
     requires { SpeaksOfMarkers rule }
-    ensures { IsTrue result ↔ RowFails (pair_of stores.now) rule Side.Old key.now row.now }
+    ensures { IsTrue result ↔ RowFails (pair_in stores.now) rule Side.Old key.now row.now }
 {
     match rule {
         Rule::PreferNew => fails_prefer_new(stores, key, row),
@@ -112,7 +112,7 @@ fn fails_in_old(stores: &Holdings, rule: Rule, key: &Key, row: &Stored) -> bool
 /// How a row of new fails one of them.
 fn fails_in_new(stores: &Holdings, rule: Rule, key: &Key, row: &Stored) -> bool
     requires { SpeaksOfMarkers rule }
-    ensures { IsTrue result ↔ RowFails (pair_of stores.now) rule Side.New key.now row.now }
+    ensures { IsTrue result ↔ RowFails (pair_in stores.now) rule Side.New key.now row.now }
 {
     match rule {
         Rule::UseOld => fails_use_old(stores, key, row),
@@ -125,7 +125,7 @@ fn fails_in_new(stores: &Holdings, rule: Rule, key: &Key, row: &Stored) -> bool
 /// Whether a row fails one of the rules that speak of both stores' markers.
 pub fn fails_by_markers(stores: &Holdings, rule: Rule, side: Side, key: &Key, row: &Stored) -> bool
     requires { SpeaksOfMarkers rule }
-    ensures { IsTrue result ↔ RowFails (pair_of stores.now) rule side key.now row.now }
+    ensures { IsTrue result ↔ RowFails (pair_in stores.now) rule side key.now row.now }
 {
     match side {
         Side::Old => fails_in_old(stores, rule, key, row),

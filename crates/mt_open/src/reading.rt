@@ -5,25 +5,19 @@ ghost use Rattle.std.specs.Ordering.{nat_cmp};
 ghost use Rattle.std.specs.Cmp.Lexicographic.{slice_cmp};
 ghost use Rattle.mt_chain.specs.Places.{is_before};
 ghost use Rattle.mt_chain.specs.StoreCall.{CanQuery};
-ghost use Rattle.mt_open.specs.Reading.{Passed, Reads, keyed, chunk_query, last_key, place_after, ReadsChunk, QueryShows, AllPass, ReadsPartition, without_value, AsksNext};
+ghost use Rattle.mt_open.specs.Reading.{Passed, has_failed, ReadsStore, keyed_row, keyed, chunk_query, last_key, place_after, ReadsChunk, QueryShows, AllPass, ReadsPartition, without_value, AsksNext};
 
 use mt_chain::{
-    Found, KeepFault, Keeper, Next, PkFrom, Range, RangeQuery, RkFrom, Stored, StoredRow,
+    Found, KeepFault, Keeper, Next, PkFrom, Range, RangeQuery, RkFrom, Row, Rows, Stored, StoredRow,
 };
 use mt_model::{Key, NoMemory, Text, Texts};
 use std::alloc::Global;
 
-#[cfg(test)]
-pub(crate) mod tests;
-
-/// A row of a store with its key.
-pub type Row = (Key, Stored);
-
 /// All that a store holds, as it was read.
 #[derive(Drop)]
 pub struct Loaded {
-    /// Every row, in the order of the keys.
-    pub rows: Vec<Row>,
+    /// Every row.
+    pub rows: Rows,
     /// Whether the store is sealed.
     pub sealed: bool,
 }
@@ -69,40 +63,38 @@ fn chunk_query(alloc: Global, pk: &Text, from: RkFrom) -> Result<RangeQuery, NoM
 /// The answer to a query.
 fn ask<K: Keeper>(alloc: Global, keeper: &mut K, query: &RangeQuery) -> Result<Found, ReadFault>
     requires { CanQuery query.now }
-    ensures passed { Passed (K.state keeper.old) (K.state keeper.new) }
+    ensures passed { Passed (has_failed result) (K.state keeper.old) (K.state keeper.new) }
     ensures shows { QueryShows query.now result (K.state keeper.old) (K.state keeper.new) }
 {
     match keeper.query(alloc, query) {
         Ok(found) => Ok(found),
         Err(KeepFault::Failed) => Err(ReadFault::Failed),
-        Err(_) => Err(ReadFault::NoMemory),
+        Err(KeepFault::NoMemory) => Err(ReadFault::NoMemory),
+        Err(KeepFault::Unmet { .. } | KeepFault::Sealed) => unreachable!(),
     }
 }
 
-/// A copy of a row, with its key.
-fn row_of(alloc: Global, pk: &Text, row: &StoredRow) -> Result<Row, NoMemory>
-    ensures { IfOk result (λ r. r ≡ (record { pk = pk.now; rk = row.now.rk }, record { props = row.now.props; tag = row.now.tag })) }
+/// A row of a partition, with its key.
+fn row_of(alloc: Global, pk: &Text, row: StoredRow) -> Result<Row, NoMemory>
+    ensures { IfOk result (λ r. r ≡ keyed_row pk.now row) }
 {
     let pk = pk.copy(alloc)?;
-    let rk = row.rk.copy(alloc)?;
-    let props = row.props.copy(alloc)?;
-    Ok((
-        Key { pk, rk },
-        Stored {
-            props,
-            tag: row.tag,
-        },
-    ))
+    let key = Key { pk, rk: row.rk };
+    let stored = Stored {
+        props: row.props,
+        tag: row.tag,
+    };
+    Ok((key, stored))
 }
 
-/// Puts copies of rows of a partition after others.
+/// Puts rows of a partition after others.
 fn push_rows(
     alloc: Global,
     rows: &mut Vec<Row>,
     pk: &Text,
-    found: &[StoredRow],
+    found: Vec<StoredRow>,
 ) -> Result<(), NoMemory>
-    ensures { IfOk result (λ u. rows.new.items ≡ rows.old.items ++ keyed pk.now found.now) }
+    ensures { IfOk result (λ u. rows.new.items ≡ rows.old.items ++ keyed pk.now found.items) }
 {
     for row in found {
         rows.push(row_of(alloc, pk, row)?)?;
@@ -145,8 +137,9 @@ fn read_chunk<K: Keeper>(
 {
     let query = chunk_query(alloc, pk, from)?;
     let found = ask(alloc, keeper, &query)?;
-    push_rows(alloc, rows, pk, found.rows.as_slice())?;
-    Ok(place_after(alloc, &found)?)
+    let place = place_after(alloc, &found)?;
+    push_rows(alloc, rows, pk, found.rows.into_items())?;
+    Ok(place)
 }
 
 /// Reads a partition whole, in chunks, after rows of lesser partitions.
@@ -193,15 +186,17 @@ fn next_partition<K: Keeper>(alloc: Global, keeper: &mut K, at: &PkFrom) -> Resu
     match keeper.next_partition(alloc, at) {
         Ok(next) => Ok(next),
         Err(KeepFault::Failed) => Err(ReadFault::Failed),
-        Err(_) => Err(ReadFault::NoMemory),
+        Err(KeepFault::NoMemory) => Err(ReadFault::NoMemory),
+        Err(KeepFault::Unmet { .. } | KeepFault::Sealed) => unreachable!(),
     }
 }
 
 /// Reads all rows of a store, and whether it is sealed. The store's contents stay as they were.
 ///
-/// The rows rise by their keys, and where the store tells its contents they are all of its rows.
+/// Where the store tells its contents they are all of its rows. Only a call that failed raises the count
+/// of faults.
 pub fn read_store<K: Keeper>(alloc: Global, keeper: &mut K) -> Result<Loaded, ReadFault>
-    ensures { Reads (K.state keeper.old) result (K.state keeper.new) }
+    ensures { ReadsStore (K.state keeper.old) result (K.state keeper.new) }
 {
     let mut rows = Vec::new(alloc);
     let mut at = PkFrom::From(Text::of(alloc, "")?);
@@ -213,7 +208,7 @@ pub fn read_store<K: Keeper>(alloc: Global, keeper: &mut K) -> Result<Loaded, Re
         match next.pk {
             None => {
                 return Ok(Loaded {
-                    rows,
+                    rows: Rows::of(rows),
                     sealed: next.sealed,
                 });
             }

@@ -1,7 +1,7 @@
 //! The logical table of two stores.
 ghost use Rattle.std.specs.Prelude.{◌≡◌, IfOk, Some, option_copied};
 ghost use Rattle.mt_meta.specs.Logical.{shown_as, from_old, from_new, from_both, old_at, new_at, old_state_at, new_state_at};
-ghost use Rattle.mt_open.specs.Holdings.{pair_of};
+ghost use Rattle.mt_open.specs.Holdings.{pair_in};
 ghost use Rattle.mt_open.specs.Table.{entity_by, entity_at, old_phase_in, new_phase_in, row_by_phases};
 
 use crate::forms::is_marker_key;
@@ -68,7 +68,7 @@ fn from_both(
 }
 
 fn old_phase_at(stores: &Holdings, key: &Key) -> Option<Phase>
-    ensures { result ≡ old_phase_in (old_state_at (pair_of stores.now) key.now.pk) }
+    ensures { result ≡ old_phase_in (old_state_at (pair_in stores.now) key.now.pk) }
 {
     match stores.old.marker(&key.pk) {
         None => None,
@@ -77,7 +77,7 @@ fn old_phase_at(stores: &Holdings, key: &Key) -> Option<Phase>
 }
 
 fn new_phase_at(stores: &Holdings, key: &Key) -> Option<NewPhase>
-    ensures { result ≡ new_phase_in (new_state_at (pair_of stores.now) key.now.pk) }
+    ensures { result ≡ new_phase_in (new_state_at (pair_in stores.now) key.now.pk) }
 {
     match stores.new.marker(&key.pk) {
         None => None,
@@ -94,7 +94,7 @@ fn by_phases(
     key: &Key,
 ) -> Result<Option<Entity>, NoMemory>
     ensures { IfOk result (λ e. e ≡ entity_by key.now (row_by_phases old new
-        (old_at (pair_of stores.now) key.now.pk key.now.rk) (new_at (pair_of stores.now) key.now.pk key.now.rk))) }
+        (old_at (pair_in stores.now) key.now.pk key.now.rk) (new_at (pair_in stores.now) key.now.pk key.now.rk))) }
 {
     let row = stores.old.row(&key.pk, key.rk.as_str());
     let entry = stores.new.row(&key.pk, key.rk.as_str());
@@ -110,7 +110,7 @@ fn by_phases(
 /// The row that clients see at a key: that of the logical table, and `None` exactly where it has none.
 /// The one error is want of memory.
 pub fn entity_at(alloc: Global, stores: &Holdings, key: &Key) -> Result<Option<Entity>, NoMemory>
-    ensures { IfOk result (λ e. e ≡ entity_at (pair_of stores.now) key.now) }
+    ensures { IfOk result (λ e. e ≡ entity_at (pair_in stores.now) key.now) }
 {
     if is_marker_key(&key.rk) {
         return Ok(None);

@@ -4,13 +4,12 @@ ghost use Rattle.std.specs.BTreeSet.{contains};
 ghost use Rattle.std.specs.Ordering.{nat_cmp};
 ghost use Rattle.mt_open.specs.declared.damage.Rule.{Rule};
 ghost use Rattle.mt_open.specs.Damage.{RowFails, FailsKept, FailsCopy, FailsNumber, FailsOwn};
-ghost use Rattle.mt_open.specs.Holdings.{pair_of};
+ghost use Rattle.mt_open.specs.Holdings.{pair_in};
 ghost use Rattle.mt_open.specs.Repeats.{AreRepeats, Stands, how_many, repeats_on};
 
-use crate::damage::Side;
 use crate::holding::Holding;
 use crate::holdings::Holdings;
-use mt_chain::Stored;
+use mt_chain::{Side, Stored};
 use mt_meta::{Mark, mark_of_props};
 use mt_model::{Key, NoMemory, Props, Tag};
 use std::alloc::Global;
@@ -66,7 +65,7 @@ fn repeated_in(alloc: Global, store: &Holding) -> Result<BTreeSet<u64>, NoMemory
 impl Repeats {
     /// Those of the two stores. The one error is want of memory.
     pub fn of(alloc: Global, stores: &Holdings) -> Result<Repeats, NoMemory>
-        ensures { IfOk result (λ r. AreRepeats (pair_of stores.now) r) }
+        ensures { IfOk result (λ r. AreRepeats (pair_in stores.now) r) }
     {
         let old = repeated_in(alloc, &stores.old)?;
         let new = repeated_in(alloc, &stores.new)?;
@@ -84,7 +83,7 @@ impl Repeats {
 }
 
 fn fails_kept(stores: &Holdings, store: u32, tag: Tag) -> bool
-    ensures { IsTrue result ↔ FailsKept (pair_of stores.now) store tag }
+    ensures { IsTrue result ↔ FailsKept (pair_in stores.now) store tag }
 {
     tag.store >= store
         || tag.n == 0
@@ -92,7 +91,7 @@ fn fails_kept(stores: &Holdings, store: u32, tag: Tag) -> bool
 }
 
 fn fails_copy(stores: &Holdings, side: Side, props: &Props) -> bool
-    ensures { IsTrue result ↔ FailsCopy (pair_of stores.now) side props.now }
+    ensures { IsTrue result ↔ FailsCopy (pair_in stores.now) side props.now }
 {
     match mark_of_props(props) {
         Some(Mark::Copy(tag)) => fails_kept(stores, stores.on(side).number(), tag),
@@ -102,15 +101,15 @@ fn fails_copy(stores: &Holdings, side: Side, props: &Props) -> bool
 
 /// Whether a tag is of another store, or of no number that the store gave.
 fn fails_number(stores: &Holdings, side: Side, tag: Tag) -> bool
-    ensures { IsTrue result ↔ FailsNumber (pair_of stores.now) side tag }
+    ensures { IsTrue result ↔ FailsNumber (pair_in stores.now) side tag }
 {
     let store = stores.on(side);
     tag.store != store.number() || tag.n == 0 || tag.n > store.counter()
 }
 
 fn fails_own(stores: &Holdings, repeats: &Repeats, side: Side, key: &Key, row: &Stored) -> bool
-    requires { Stands (pair_of stores.now) repeats.now side key.now row.now }
-    ensures { IsTrue result ↔ FailsOwn (pair_of stores.now) side key.now row.now.tag }
+    requires { Stands (pair_in stores.now) repeats.now side key.now row.now }
+    ensures { IsTrue result ↔ FailsOwn (pair_in stores.now) side key.now row.now.tag }
 {
     if fails_number(stores, side, row.tag) {
         return true;
@@ -121,8 +120,8 @@ fn fails_own(stores: &Holdings, repeats: &Repeats, side: Side, key: &Key, row: &
 /// Whether a row's tag is not one that its store gave to it alone, or it keeps one that no store below
 /// gave.
 pub fn fails_tags(stores: &Holdings, repeats: &Repeats, side: Side, key: &Key, row: &Stored) -> bool
-    requires { Stands (pair_of stores.now) repeats.now side key.now row.now }
-    ensures { IsTrue result ↔ RowFails (pair_of stores.now) Rule.Tags side key.now row.now }
+    requires { Stands (pair_in stores.now) repeats.now side key.now row.now }
+    ensures { IsTrue result ↔ RowFails (pair_in stores.now) Rule.Tags side key.now row.now }
 {
     fails_own(stores, repeats, side, key, row) || fails_copy(stores, side, &row.props)
 }

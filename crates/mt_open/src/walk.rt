@@ -3,13 +3,15 @@ ghost use Rattle.std.specs.Prelude.{◌≡◌, ◌≤◌, ◌<◌, ◌+◌, IsTr
 ghost use Rattle.std.specs.Ordering.{is_le};
 ghost use Rattle.mt_model.specs.Key.{key_cmp};
 ghost use Rattle.mt_chain.specs.Rows.{are_rising};
-ghost use Rattle.mt_open.specs.Holdings.{pair_of};
-ghost use Rattle.mt_open.specs.Table.{entity_at, IsTableOf, with_one};
+ghost use Rattle.mt_open.specs.Holdings.{pair_in};
+ghost use Rattle.mt_chain.specs.Table.{IsListing};
+ghost use Rattle.mt_meta.specs.Steps.{logical_table};
+ghost use Rattle.mt_open.specs.Table.{entity_at, with_one};
 ghost use Rattle.mt_open.specs.Walk.{IsFirstKey, IsAtMost, rows_past};
 
 use crate::holdings::Holdings;
-use crate::reading::Row;
 use crate::table::entity_at;
+use mt_chain::Row;
 use mt_model::{Entities, Entity, Key, NoMemory};
 use std::alloc::Global;
 use std::cmp::Ordering;
@@ -58,7 +60,7 @@ fn push_entity(
     key: &Key,
     items: &mut Vec<Entity>,
 ) -> Result<(), NoMemory>
-    ensures { IfOk result (λ u. items.new.items ≡ with_one items.old.items (entity_at (pair_of stores.now) key.now)) }
+    ensures { IfOk result (λ u. items.new.items ≡ with_one items.old.items (entity_at (pair_in stores.now) key.now)) }
 {
     if let Some(entity) = entity_at(alloc, stores, key)? {
         items.push(entity)?;
@@ -69,7 +71,7 @@ fn push_entity(
 /// The logical table of two stores that were read whole: the rows that clients see, in the order of
 /// their keys. The one error is want of memory.
 pub fn logical_table(alloc: Global, stores: &Holdings) -> Result<Entities, NoMemory>
-    ensures { IfOk result (λ es. IsTableOf (pair_of stores.now) es) }
+    ensures { IfOk result (λ es. IsListing es (logical_table (pair_in stores.now))) }
 {
     let mut items = Vec::new(alloc);
     let mut old = stores.old.rows();

@@ -14,6 +14,9 @@ of-requires c =
 pub returns : goal.returns
 returns c =
     let region = in_range c.args.pk.now c.args.from.now c.args.upto.now in
-    let table = selected region c.args.filter.now (table_of c.args.rows.now) in
-    (c.of.result, refl, subst (λ es. IsListing es table) (sym (c.of.ensures ∙ c.in_ok-found.ensures ∙ ap (picked region c.args.filter.now) c.as_slice.ensures.value))
-    (picked_is region c.args.filter.now c.args.rows.now c.as_slice.ensures.rising))
+    let table = selected region c.args.filter.now (table_of c.args.rows.now) in (
+      c.of.result,
+      refl,
+      subst (λ es. IsListing es table) (sym (c.of.ensures ∙ c.in_ok-found.ensures ∙ ap (picked region c.args.filter.now) c.as_slice.ensures.value))
+          (picked_is region c.args.filter.now c.args.rows.now c.as_slice.ensures.rising),
+    )

@@ -17,7 +17,9 @@ returns-in-None g c =
     let s = g.K.Keeper.state c.args.keeper.now in
     let t = g.K.Keeper.state c.loop-next.keeper in
     let u = g.K.Keeper.state c.next_partition.new.keeper in
-    walk_end s t u c.loop-next.at (record { rows = c.loop-next.rows; sealed = c.in-Ok.next.sealed }) c.in-Ok.next c.loop-next.invariant c.in-Ok.ensures c.in-None.is refl
+    walk_end s t u c.loop-next.at (record { rows = c.of-in-None.result; sealed = c.in-Ok.next.sealed }) c.in-Ok.next
+    (subst (λ rows. Walked s c.loop-next.at rows t) (sym c.of-in-None.ensures) c.loop-next.invariant)
+    c.in-Ok.ensures c.in-None.is refl
 
 pub read_next-requires : goal.read_next-requires
 read_next-requires g c =

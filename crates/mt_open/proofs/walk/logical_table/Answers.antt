@@ -1,15 +1,17 @@
 use Rattle.std.proofs.Common.{List, [], length, sym, subst, ap, arith}
 use Rattle.mt_model.specs.declared.entity.Entity.{Entity}
 use Rattle.mt_chain.specs.Rows.{Rows}
-use Rattle.mt_open.specs.Holdings.{pair_of}
-use Rattle.mt_open.specs.Table.{IsTableOf, entity_at, with_one}
+use Rattle.mt_open.specs.Holdings.{pair_in}
+use Rattle.mt_chain.specs.Table.{IsListing}
+use Rattle.mt_meta.specs.Steps.{logical_table}
+use Rattle.mt_open.specs.Table.{entity_at, with_one}
 use Rattle.mt_open.specs.Walk.{rows_past}
 use Rattle.mt_open.proofs.WalkLaws.{Tabled, tabled_start, tabled_more, tabled_end, fewer}
 use Rattle.mt_open.proofs.walk.logical_table.Goals as goal
 
 pub loop-key-init : goal.loop-key-init
 loop-key-init c =
-    let p = pair_of c.args.stores.now in
+    let p = pair_in c.args.stores.now in
     subst (λ (es : List Entity). Tabled p es c.rows-old.result.now c.rows-new.result.now) (sym c.new-items.ensures.items)
     (subst (λ (rows : Rows). Tabled p [] rows c.rows-new.result.now) (sym c.rows-old.ensures.value)
     (subst (λ (rows : Rows). Tabled p [] p.old.rows rows) (sym c.rows-new.ensures.value)
@@ -33,7 +35,7 @@ loop-key-smaller c =
 
 pub loop-key-preserved : goal.loop-key-preserved
 loop-key-preserved c =
-    let p = pair_of c.args.stores.now in
+    let p = pair_in c.args.stores.now in
     let key = c.in-Some.key.now in
     subst (λ (es : List Entity). Tabled p es c.rows_past-old.result.now c.rows_past-new.result.now) (sym c.in_ok-push_entity.ensures)
     (subst (λ (rows : Rows). Tabled p (with_one c.loop-key.items.items (entity_at p key)) rows c.rows_past-new.result.now) (sym c.rows_past-old.ensures)
@@ -45,5 +47,5 @@ of-requires c = c.loop-key.invariant.rising
 
 pub returns : goal.returns
 returns c =
-    let p = pair_of c.args.stores.now in
-    subst (IsTableOf p) (sym c.of.ensures) (tabled_end p c.loop-key.items.items c.loop-key.old.now c.loop-key.new.now c.loop-key.invariant c.in_default.ensures)
+    let p = pair_in c.args.stores.now in
+    subst (λ es. IsListing es (logical_table p)) (sym c.of.ensures) (tabled_end p c.loop-key.items.items c.loop-key.old.now c.loop-key.new.now c.loop-key.invariant c.in_default.ensures)

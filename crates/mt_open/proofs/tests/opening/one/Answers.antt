@@ -1,7 +1,7 @@
 use Rattle.std.proofs.Common.{◌++◌, ◌∷◌, [], ap, sym, subst, ◌∙◌}
 use Rattle.mt_chain.specs.Puts.{CanApply}
 use Rattle.mt_chain.proofs.PutLaws.{can_apply_one}
-use Rattle.mt_open.proofs.reading.tests.one.Goals as goal
+use Rattle.mt_open.proofs.tests.opening.one.Goals as goal
 
 pub returns : goal.returns
 returns c = subst CanApply
