@@ -21,7 +21,7 @@ use Rattle.mt_front.specs.declared.asks.Asked.{Asked}
 use Rattle.mt_front.specs.declared.asks.Asked.TheVariants.{Write}
 use Rattle.mt_front.specs.declared.asks.Echo.TheVariants.{Plain}
 use Rattle.mt_front.specs.declared.refusals.BadRequest.{BadRequest}
-use Rattle.mt_front.specs.Asks.{KeyedBy, MatchedBy, AsksInsert, AsksAction, AsksOn, Asks, CanTry, match_refusal, condition_of, put_op, merge_op}
+use Rattle.mt_front.specs.Asks.{KeyedBy, MatchedBy, AsksInsert, AsksAction, AsksOn, RequestAsks, CanTry, match_refusal, condition_of, put_op, merge_op}
 
 -- ---- what may be tried
 
@@ -69,7 +69,7 @@ entity_asks action m pk rk bytes key (Ok asked) readable answers pk_is rk_is h =
 entity_asks action m pk rk bytes key (Err e) readable answers pk_is rk_is h = tt
 
 pub table_asks : (p : PlainRequest) (bytes : List ℕ) (r : Result Asked NoMemory) → p.route ≡ route.Table → bytes ≡ p.body
-    → IfOk r (AsksInsert p.no_content bytes) → IfOk r (Asks p)
+    → IfOk r (AsksInsert p.no_content bytes) → IfOk r (RequestAsks p)
 table_asks p bytes (Ok asked) at body h =
     subst (λ q. AsksOn q p.if_match p.no_content p.body asked) (sym at) (subst (λ bytes. AsksInsert p.no_content bytes asked) body h)
 table_asks p bytes (Err e) at body h = tt

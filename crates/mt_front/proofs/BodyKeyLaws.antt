@@ -18,7 +18,7 @@ use Rattle.mt_json.specs.declared.read.JsonFault.TheVariants.{BadType, MissingKe
 use Rattle.mt_json.specs.declared.read.KeyUse.TheVariants.{InBody}
 use Rattle.mt_json.specs.Kind.{kind_in}
 use Rattle.mt_json.specs.Body.{key_name, is_key, is_ignored, is_null, gives_nothing, early_fault, Gives, AllGive, missing_part, missing_key, key_text, IsBody, MembersGive, GivesBody, ReadsAs}
-use Rattle.mt_front.specs.Asks.{HasKeys}
+use Rattle.mt_front.specs.Asks.{BodyHasKeys}
 
 same_name : (a b : List ℕ) → slice_cmp nat_cmp a b ≡ Equal → a ≡ b
 same_name a b e = text_true a b (texts_ties a b ∙ ap is_eq e)
@@ -91,7 +91,7 @@ built : (ms : Members) (ps : List Prop) (body : Body) (f : Option PropsFault) �
 built ms ps body None b = b
 built ms ps body (Some f) b = absurd (cc)
 
-keys_given : (ms : Members) (body : Body) → missing_key InBody (object ms) ≡ None → MembersGive InBody (object ms) ms (Ok body) → (pk : List ℕ) × (rk : List ℕ) × HasKeys body pk rk
+keys_given : (ms : Members) (body : Body) → missing_key InBody (object ms) ≡ None → MembersGive InBody (object ms) ms (Ok body) → (pk : List ℕ) × (rk : List ℕ) × BodyHasKeys body pk rk
 keys_given ms body none (Ok ps, all, builds) =
     let here = neither (missing_part (object ms) Partition) (missing_part (object ms) Row) none in
     let is = built ms ps body (props_fault ps) builds in
@@ -101,11 +101,11 @@ keys_given ms body none (Ok ps, all, builds) =
 keys_given ms body none (Err f, all, fault) = absurd (cc)
 
 missing_by : (ms : Members) (body : Body) (m : Option KeyPart) → missing_key InBody (object ms) ≡ m
-    → MatchOption m (MembersGive InBody (object ms) ms (Ok body)) (λ part. ◌≡◌ {A = Result Body JsonFault} (Ok body) (Err (MissingKey part))) → (pk : List ℕ) × (rk : List ℕ) × HasKeys body pk rk
+    → MatchOption m (MembersGive InBody (object ms) ms (Ok body)) (λ part. ◌≡◌ {A = Result Body JsonFault} (Ok body) (Err (MissingKey part))) → (pk : List ℕ) × (rk : List ℕ) × BodyHasKeys body pk rk
 missing_by ms body None is gives = keys_given ms body is gives
 missing_by ms body (Some part) is gives = absurd (cc)
 
-body_keys : (d : Data) (body : Body) → GivesBody InBody d (Ok body) → (pk : List ℕ) × (rk : List ℕ) × HasKeys body pk rk
+body_keys : (d : Data) (body : Body) → GivesBody InBody d (Ok body) → (pk : List ℕ) × (rk : List ℕ) × BodyHasKeys body pk rk
 body_keys null body gives = absurd (cc)
 body_keys (boolean b) body gives = absurd (cc)
 body_keys (number n) body gives = absurd (cc)
@@ -114,10 +114,10 @@ body_keys (array ds) body gives = absurd (cc)
 body_keys (object ms) body gives = missing_by ms body (missing_key InBody (object ms)) refl gives
 
 -- the texts of both keys are in the body
-pub has_keys : (bytes : List ℕ) (body : Body) → ReadsAs InBody bytes (Ok body) → (pk : List ℕ) × (rk : List ℕ) × HasKeys body pk rk
+pub has_keys : (bytes : List ℕ) (body : Body) → ReadsAs InBody bytes (Ok body) → (pk : List ℕ) × (rk : List ℕ) × BodyHasKeys body pk rk
 has_keys bytes body (inl n) = absurd (let h = n.1 in cc)
 has_keys bytes body (inr (d, reads, gives)) = body_keys d body gives
 
-pub read_keys : (bytes : List ℕ) (body : Body) → ReadsAs InBody bytes (Ok body) ⊎ (◌≡◌ {A = Result Body JsonFault} (Ok body) (Err NoMemory)) → (pk : List ℕ) × (rk : List ℕ) × HasKeys body pk rk
+pub read_keys : (bytes : List ℕ) (body : Body) → ReadsAs InBody bytes (Ok body) ⊎ (◌≡◌ {A = Result Body JsonFault} (Ok body) (Err NoMemory)) → (pk : List ℕ) × (rk : List ℕ) × BodyHasKeys body pk rk
 read_keys bytes body (inl reads) = has_keys bytes body reads
 read_keys bytes body (inr none) = absurd (cc)

@@ -1,5 +1,5 @@
 -- What the turns of a whole call say beside its answer: a written batch has one tag for each operation, and a store that tells told before.
-use Rattle.std.proofs.Common.{◌≡◌, ℕ, zero, suc, true, false, List, [], ◌∷◌, length, Option, Some, None, Ok, Err, refl, ap, sym, ◌∙◌, subst, inl, inr}
+use Rattle.std.proofs.Common.{◌≡◌, ℕ, Bool, true, false, List, [], ◌∷◌, length, Option, Some, None, Ok, Err, refl, ap, sym, ◌∙◌, subst, inl, inr}
 use Rattle.std.specs.Prelude.{Result, is_some}
 use Rattle.mt_model.specs.declared.tag.Tag.{Tag}
 use Rattle.mt_chain.specs.declared.op.Op.{Op}
@@ -14,7 +14,6 @@ use Rattle.mt_chain.specs.Store.{Store, Onward, Same}
 use Rattle.mt_chain.specs.Asks.{Means, CallShows}
 use Rattle.mt_batch_plan.specs.declared.call.BatchProgress.{BatchProgress}
 use Rattle.mt_batch_plan.specs.declared.call.BatchProgress.TheVariants as batch
-use Rattle.mt_batch_plan.specs.declared.place.Place.{Place}
 use Rattle.mt_batch_plan.specs.declared.place.Place.TheVariants.{ReadOld}
 use Rattle.mt_batch_plan.specs.Calls.{Call, Absorbs}
 use Rattle.mt_world.specs.declared.actor.Actor.{Actor}
@@ -22,43 +21,38 @@ use Rattle.mt_world.specs.declared.actor.Actor.TheVariants.{Client}
 use Rattle.mt_world.specs.declared.actor.ClientCall.{ClientCall}
 use Rattle.mt_world.specs.declared.actor.ClientCall.TheVariants as client
 use Rattle.mt_world.specs.declared.actor.Answer.{Answer}
+use Rattle.mt_world.specs.declared.actor.Answer.TheVariants.{Written}
 use Rattle.mt_world.specs.declared.actor.Progress.{Progress}
 use Rattle.mt_world.specs.declared.actor.Progress.TheVariants.{More, Done}
-use Rattle.mt_world.specs.declared.actor.Answer.TheVariants.{Written, Refused}
 use Rattle.mt_world.specs.declared.actor.TurnFault.{TurnFault}
 use Rattle.mt_world.specs.declared.actor.TurnFault.TheVariants.{StoreFault, HistoryFull, NoMemory}
 use Rattle.mt_world.specs.Worlds.{WorldState}
-use Rattle.mt_world.specs.Turns.{CallsOn, NoCall, Moves, ActorMoves, Finishes, EndsCall, Answers, asked_by, progress_of, batch_after, last_turn, stage_of}
-use Rattle.mt_front.specs.Session.{ToldBefore}
+use Rattle.mt_world.specs.Moves.{NewEntry, Move, BatchMoves, batch_move}
+use Rattle.mt_world.specs.Turns.{CallsOn, NoCall, Moves, stage_of}
+use Rattle.mt_world.specs.WholeCalls.{Mark, Finishes, EndsCall, BatchAnswers, last_turn}
 use Rattle.mt_world.proofs.StageLaws.{written_at_write}
+use Rattle.mt_world.proofs.FinishLaws.{goes_on, batch_answers}
+use Rattle.mt_front.specs.Session.{ToldBefore, counts_of}
 use Rattle.mt_front.proofs.CameLaws.{told_then}
 
 -- ---- tags
 
-written_now : (call : Call) (answer : StoreReply) (said : BatchProgress) (to : Place) (tags : List Tag) → Absorbs call.batch call.place answer (Ok said) to → Done (Written tags) ≡ progress_of said → length tags ≡ length call.batch
-written_now call answer batch.More to tags a e = absurd (let f : Done (Written tags) ≡ More = e in cc)
-written_now call answer (batch.Written given) to tags a e =
-    let f : Done (Written tags) ≡ Done (Written given) = e in
-    let g : tags ≡ given = cc in
-    ap length g ∙ (written_at_write call.batch call.place to answer given a).1
-written_now call answer (batch.Refused r) to tags a e = absurd (let f : Done (Written tags) ≡ Done (Refused r) = e in cc)
+written_now : (call to : Call) (answer : StoreReply) (said : BatchProgress) (tags : List Tag) → Absorbs call.batch call.place answer (Ok said) to.place → Done (Written tags) ≡ (batch_move to said).progress → length tags ≡ length call.batch
+written_now call to answer batch.More tags a e = absurd cc
+written_now call to answer (batch.Written given) tags a e = let g : tags ≡ given = cc in ap length g ∙ (written_at_write call.batch call.place to.place answer given a).1
+written_now call to answer (batch.Refused r) tags a e = absurd cc
 
-tags_now : (a : Actor) (answer : StoreReply) (tags : List Tag) (after : Actor) → ActorMoves a answer (Done (Written tags)) after → length tags ≡ length (asked_by a)
-tags_now (Client (client.Batch call)) answer tags after m = written_now call answer m.said m.to.place tags m.absorbs m.progress_is
-tags_now (Client client.Ended) answer tags after m = absurd m
+tags_last : (w w' : WorldState) (call : Call) (tags : List Tag) (entry : Option NewEntry) (after : Actor) → Moves (stage_of w) (Client (client.Batch call)) (Ok (Done (Written tags))) entry (stage_of w') after → length tags ≡ length call.batch
+tags_last w w' call tags entry after m =
+    let b : BatchMoves call m.1 (record { progress = Done (Written tags); entry = entry; after = after }) = m.4 in
+    written_now call b.to m.1 b.said tags b.absorbs (ap (λ (x : Move). x.progress) b.is)
 
-more_asked : (call : Call) (said : BatchProgress) (to : Call) (b : Actor) → to.batch ≡ call.batch → More ≡ progress_of said → b ≡ Client (batch_after said to) → asked_by b ≡ call.batch
-more_asked call batch.More to b same e after = ap asked_by after ∙ same
-more_asked call (batch.Written given) to b same e after = absurd (let f : More ≡ Done (Written given) = e in cc)
-more_asked call (batch.Refused r) to b same e after = absurd (let f : More ≡ Done (Refused r) = e in cc)
-
-asked_on : (a : Actor) (answer : StoreReply) (b : Actor) → ActorMoves a answer More b → asked_by b ≡ asked_by a
-asked_on (Client (client.Batch call)) answer b m = more_asked call m.said m.to b m.same m.progress_is m.after_is
-asked_on (Client client.Ended) answer b m = absurd m
-
-pub tags_each : (n : ℕ) (w : WorldState) (caller : ℕ) (a : Actor) (tags : List Tag) (w' : WorldState) → Finishes n w caller a (Ok (Written tags)) w' → length tags ≡ length (asked_by a)
-tags_each zero w caller a tags w' f = tags_now a f.1.moves.1 tags f.0 f.1.moves.4
-tags_each (suc n) w caller a tags w' f = tags_each n f.0 caller f.1 tags w' f.3 ∙ ap length (asked_on a f.2.moves.1 f.1 f.2.moves.4)
+tags_each : (marks : List Mark) (w : WorldState) (c : ℕ) (call : Call) (tags : List Tag) (w' : WorldState) → Finishes marks w c (Client (client.Batch call)) (Ok (Written tags)) w' → length tags ≡ length call.batch
+tags_each [] w c call tags w' f = absurd f
+tags_each (m ∷ []) w c call tags w' f = tags_last w w' call tags m.entry f.0 f.1.turn.moves
+tags_each (m ∷ next ∷ marks) w c call tags w' f =
+    let g = goes_on w f.0 call m.entry f.1 f.2.turn.moves in
+    tags_each (next ∷ marks) f.0 c g.to tags w' (subst (λ b. Finishes (next ∷ marks) f.0 c b (Ok (Written tags)) w') g.after f.3) ∙ ap length g.same_ops
 
 -- ---- stores that tell told before
 
@@ -69,7 +63,7 @@ onward_told P (Some a) (Some b) h e = refl
 
 call_told : (s t : Store) (a : Ask) (r : Result StoreReply CallFault) → CallShows a r s t → is_some t.told ≡ true → is_some s.told ≡ true
 call_told s t a (Ok r) h = onward_told (Means s.number a r) s.told t.told h.2
-call_told s t a (Err call_fault.Failed) h = onward_told Same s.told t.told h.1
+call_told s t a (Err call_fault.Failed) h = onward_told Same s.told t.told h
 call_told s t a (Err call_fault.NoMemory) h = onward_told Same s.told t.told h
 
 module _ (w w' : WorldState) where
@@ -80,30 +74,75 @@ module _ (w w' : WorldState) where
   none_told : NoCall (stage_of w) (stage_of w') → ToldBefore w w'
   none_told h = record { old_told = λ e. ap (λ (s : Store). is_some s.told) (sym h.old_store) ∙ e; new_told = λ e. ap (λ (s : Store). is_some s.told) (sym h.new_store) ∙ e }
 
-  moved_told : (a b : Actor) (r : Result Progress TurnFault) → Moves (stage_of w) a r (stage_of w') b → ToldBefore w w'
-  moved_told a b (Ok progress) m = on_told m.0.side m.0.ask (Ok m.1) m.3.on
-  moved_told a b (Err StoreFault) m = on_told m.0.side m.0.ask (Err call_fault.Failed) m.2.on
-  moved_told a b (Err HistoryFull) m = none_told m.0
-  moved_told a b (Err NoMemory) m = elim m.0 as (λ _. ToldBefore w w') [ inl n ↦ none_told n | inr v ↦ on_told v.ask.side v.ask.ask v.answer v.call.on ]
+  moved_told : (a b : Actor) (r : Result Progress TurnFault) (entry : Option NewEntry) → Moves (stage_of w) a r entry (stage_of w') b → ToldBefore w w'
+  moved_told a b (Ok progress) entry m = on_told m.0.side m.0.ask (Ok m.1) m.3.on
+  moved_told a b (Err StoreFault) entry m = on_told m.0.side m.0.ask (Err call_fault.Failed) m.2.on
+  moved_told a b (Err HistoryFull) entry m = none_told m.0
+  moved_told a b (Err NoMemory) entry m = elim m.0 as (λ _. ToldBefore w w') [ inl n ↦ none_told n | inr v ↦ on_told v.ask.side v.ask.ask v.answer v.call.on ]
 
-pub finishes_told : (n : ℕ) (w : WorldState) (caller : ℕ) (a : Actor) (r : Result Answer TurnFault) (w' : WorldState) → Finishes n w caller a r w' → ToldBefore w w'
-finishes_told zero w caller a r w' f = moved_told w w' a f.0 (last_turn r) f.1.moves
-finishes_told (suc n) w caller a r w' f = told_then w f.0 w' (moved_told w f.0 a f.1 (Ok More) f.2.moves) (finishes_told n f.0 caller f.1 r w' f.3)
+finishes_told : (marks : List Mark) (w : WorldState) (c : ℕ) (a : Actor) (r : Result Answer TurnFault) (w' : WorldState) → Finishes marks w c a r w' → ToldBefore w w'
+finishes_told [] w c a r w' f = absurd f
+finishes_told (m ∷ []) w c a r w' f = moved_told w w' a f.0 (last_turn r) m.entry f.1.turn.moves
+finishes_told (m ∷ next ∷ marks) w c a r w' f = told_then w f.0 w' (moved_told w f.0 a f.1 (Ok More) m.entry f.2.turn.moves) (finishes_told (next ∷ marks) f.0 c f.1 r w' f.3)
+
+-- ---- counts of faults
+
+-- a store call failed in the last turn
+abbrev pub has_failed : {A : Type 0} → Result A TurnFault → Bool
+has_failed (Ok a) = false
+has_failed (Err StoreFault) = true
+has_failed (Err HistoryFull) = false
+has_failed (Err NoMemory) = false
+
+failed_last : (r : Result Answer TurnFault) → has_failed (last_turn r) ≡ has_failed r
+failed_last (Ok answer) = refl
+failed_last (Err StoreFault) = refl
+failed_last (Err HistoryFull) = refl
+failed_last (Err NoMemory) = refl
+
+module _ (w w' : WorldState) where
+  both_still : w'.old_store.faults ≡ w.old_store.faults → w'.new_store.faults ≡ w.new_store.faults → counts_of w' ≡ counts_of w
+  both_still p q = ap (λ n. record { old_store = n; new_store = w'.new_store.faults }) p ∙ ap (λ n. record { old_store = w.old_store.faults; new_store = n }) q
+
+  on_still : (side : Side) (a : Ask) (answer : StoreReply) → CallsOn side w.old_store w.new_store a (Ok answer) w'.old_store w'.new_store → counts_of w' ≡ counts_of w
+  on_still Old a answer h = both_still h.0.faults (ap (λ (s : Store). s.faults) h.1)
+  on_still New a answer h = both_still (ap (λ (s : Store). s.faults) h.1) h.0.faults
+
+  none_still : NoCall (stage_of w) (stage_of w') → counts_of w' ≡ counts_of w
+  none_still h = both_still (ap (λ (s : Store). s.faults) h.old_store) (ap (λ (s : Store). s.faults) h.new_store)
+
+  moved_still : (a b : Actor) (r : Result Progress TurnFault) (entry : Option NewEntry) → has_failed r ≡ false → Moves (stage_of w) a r entry (stage_of w') b → counts_of w' ≡ counts_of w
+  moved_still a b (Ok progress) entry e m = on_still m.0.side m.0.ask m.1 m.3.on
+  moved_still a b (Err StoreFault) entry e m = absurd cc
+  moved_still a b (Err HistoryFull) entry e m = none_still m.0
+  moved_still a b (Err NoMemory) entry e m = elim m.0 as (λ _. counts_of w' ≡ counts_of w) [ inl n ↦ none_still n | inr v ↦ both_still v.old_faults v.new_faults ]
+
+-- a call in which no store call failed raises no count
+finishes_still : (marks : List Mark) (w : WorldState) (c : ℕ) (a : Actor) (r : Result Answer TurnFault) (w' : WorldState) → has_failed r ≡ false → Finishes marks w c a r w' → counts_of w' ≡ counts_of w
+finishes_still [] w c a r w' e f = absurd f
+finishes_still (m ∷ []) w c a r w' e f = moved_still w w' a f.0 (last_turn r) m.entry (failed_last r ∙ e) f.1.turn.moves
+finishes_still (m ∷ next ∷ marks) w c a r w' e f = finishes_still (next ∷ marks) f.0 c f.1 r w' e f.3 ∙ moved_still w f.0 a f.1 (Ok More) m.entry refl f.2.turn.moves
 
 -- ---- a batch of one operation, from its call on
 
 -- what a finished call of one operation says
-pub record Called (w : WorldState) (op : Op) (r : Result Answer TurnFault) (w' : WorldState) : Type 0 where
-  pub answers : Answers w 0 (op ∷ []) r w'
+pub record Called (c : ℕ) (w : WorldState) (op : Op) (r : Result Answer TurnFault) (w' : WorldState) : Type 0 where
+  pub marks : List Mark
+  pub answers : BatchAnswers w c (op ∷ []) marks r w'
   pub told : ToldBefore w w'
+  pub still : has_failed r ≡ false → counts_of w' ≡ counts_of w
   pub tags : (tags : List Tag) → r ≡ Ok (Written tags) → length tags ≡ 1
 
-module _ (w u w' : WorldState) (op : Op) (ops : List Op) (call : ClientCall) (r : Result Answer TurnFault) where
-  pub called : u ≡ w → call ≡ client.Batch (record { batch = ops; place = ReadOld }) → ops ≡ op ∷ [] → EndsCall u 0 (Client call) r w' → Answers u 0 (asked_by (Client call)) r w' → Called w op r w'
-  called same call_is ops_are ends answers =
-      let asked : asked_by (Client call) ≡ op ∷ [] = ap (λ c. asked_by (Client c)) call_is ∙ ops_are in
-      record {
-        answers = subst (λ v. Answers v 0 (op ∷ []) r w') same (subst (λ l. Answers u 0 l r w') asked answers);
-        told = subst (λ v. ToldBefore v w') same (finishes_told ends.more u 0 (Client call) r w' ends.turns);
-        tags = λ tags is. tags_each ends.more u 0 (Client call) tags w' (subst (λ v. Finishes ends.more u 0 (Client call) v w') is ends.turns) ∙ ap length asked;
-      }
+call_answers : (c : ℕ) (w w' : WorldState) (op : Op) (call : Call) (r : Result Answer TurnFault) → call.batch ≡ op ∷ [] → EndsCall w c (Client (client.Batch call)) r w' → Called c w op r w'
+call_answers c w w' op call r ops ends = record {
+  marks = ends.marks;
+  answers = subst (λ l. BatchAnswers w c l ends.marks r w') ops (batch_answers ends.marks w w' c call r ends.turns);
+  told = finishes_told ends.marks w c (Client (client.Batch call)) r w' ends.turns;
+  still = λ e. finishes_still ends.marks w c (Client (client.Batch call)) r w' e ends.turns;
+  tags = λ tags is. tags_each ends.marks w c call tags w' (subst (λ v. Finishes ends.marks w c (Client (client.Batch call)) v w') is ends.turns) ∙ ap length ops;
+}
+
+pub called : (c : ℕ) (w u w' : WorldState) (op : Op) (ops : List Op) (call : ClientCall) (r : Result Answer TurnFault)
+    → u ≡ w → call ≡ client.Batch (record { batch = ops; place = ReadOld }) → ops ≡ op ∷ [] → EndsCall u c (Client call) r w' → Called c w op r w'
+called c w u w' op ops call r same call_is ops_are ends =
+    call_answers c w w' op (record { batch = ops; place = ReadOld }) r ops_are (subst (λ v. EndsCall v c (Client (client.Batch (record { batch = ops; place = ReadOld }))) r w') same (subst (λ n. EndsCall u c (Client n) r w') call_is ends))

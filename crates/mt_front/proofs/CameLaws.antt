@@ -1,39 +1,38 @@
 -- How an operation came out over a world.
-use Rattle.std.proofs.Common.{◌≡◌, ℕ, ◌-◌, ◌≤◌, true, false, List, [], ◌∷◌, ◌++◌, length, take, drop, Option, Some, None, Ok, Err, refl, sym, ap, ◌∙◌, arith, subst, append-nil}
-use Rattle.std.specs.Prelude.{All, not, is_some, IfSome}
-use Rattle.std.proofs.Math.Seq.{take-length, take-append_seam, drop-append_seam}
+use Rattle.std.proofs.Common.{◌≡◌, ℕ, ◌-◌, true, false, List, [], ◌∷◌, ◌++◌, Option, Some, None, Err, refl, sym, ap, ◌∙◌, arith, subst, append-nil}
+use Rattle.std.specs.Prelude.{All, Result, is_some, IfSome}
+use Rattle.std.specs.Option.{option_to_list}
 use Rattle.std.proofs.lemmas.List.{drop_all}
 use Rattle.std.proofs.lemmas.List.Elements.{All-nil, All-cons}
-use Rattle.mt_model.specs.declared.tag.Tag.{Tag}
 use Rattle.mt_chain.specs.declared.op.Op.{Op}
-use Rattle.mt_chain.specs.declared.op.Cause.{Cause}
-use Rattle.mt_chain.specs.declared.op.Refusal.{Refusal}
-use Rattle.mt_chain.specs.Table.{Table, table_of}
-use Rattle.mt_chain.specs.Batch.{cause_in, refusal_of, refusal_at, batch_weight}
-use Rattle.mt_history.specs.declared.entry.What.{What}
-use Rattle.mt_history.specs.declared.entry.What.TheVariants as what
+use Rattle.mt_chain.specs.Batch.{batch_weight}
+use Rattle.mt_chain.specs.Table.{table_of, rows_of}
 use Rattle.mt_history.specs.declared.entry.Entry.{Entry}
-use Rattle.mt_history.specs.declared.model.Reply.TheVariants as reply
-use Rattle.mt_history.specs.Kept.{has_room}
-use Rattle.mt_history.specs.Window.{replay}
-use Rattle.mt_history.specs.Replies.{rows_of, refusal_reply}
-use Rattle.mt_world.specs.declared.actor.Answer.TheVariants as answer
+use Rattle.mt_history.specs.Replies.{Replies}
+use Rattle.mt_world.specs.declared.actor.Answer.{Answer}
+use Rattle.mt_world.specs.declared.actor.TurnFault.{TurnFault}
 use Rattle.mt_world.specs.declared.actor.TurnFault.TheVariants as fault
-use Rattle.mt_world.specs.Worlds.{WorldState, Tells, table_now}
-use Rattle.mt_world.specs.Turns.{IsSameWorld, Answers, entries_with, entry_of}
+use Rattle.mt_world.specs.Worlds.{WorldState, Tells, table_now, entry_of}
+use Rattle.mt_world.specs.Moves.{NewEntry}
+use Rattle.mt_world.specs.Logs.{entries_with}
+use Rattle.mt_world.specs.Turns.{IsSameWorld, RepliesAt}
+use Rattle.mt_world.specs.WholeCalls.{Mark, BatchAnswers, batch_entry}
+use Rattle.mt_world.specs.Turns as turns
 use Rattle.mt_front.specs.declared.refusals.BadRequest.{BadRequest}
-use Rattle.mt_front.specs.declared.asks.Asked.{Asked}
 use Rattle.mt_front.specs.declared.asks.Asked.TheVariants as asked
-use Rattle.mt_front.specs.declared.asks.Echo.{Echo}
-use Rattle.mt_front.specs.Answers.{Said, Bad, Done, Refused, Fault, Full, Exchange, what_of, found, table_found, HadRoom, IsRefusedAt, NoneOf, StandsAt, FitsAt, place_after}
-use Rattle.mt_front.specs.Session.{past_of, ToldBefore}
-use Rattle.mt_front.specs.Turns.{Stays, CameOut}
-use Rattle.mt_front.proofs.FitLaws.{past_with}
+use Rattle.mt_front.specs.declared.connection.Outcome.{Outcome}
+use Rattle.mt_front.specs.Items.{Bad, is_full, is_fault}
+use Rattle.mt_front.specs.Answers.{Past, FitsFrom, RepliesFound, NoneOf, Counts, IsCaused, MayStay, past_end, entries_from, table_found}
+use Rattle.mt_front.specs.Session.{past_of, counts_of, ToldBefore, Added}
+use Rattle.mt_front.specs.Turns.{CameOut, LeavesNothing, Tried, outcome_of, left_by}
+use Rattle.mt_front.proofs.FitLaws.{grown}
+use Rattle.mt_front.proofs.OwnLaws.{AreOwn, left_at, room_at, marks_at, none_at, table_at}
+use Rattle.mt_front.proofs.CauseLaws.{most_self}
 
 -- ---- worlds that differ in their history and their counts alone
 
 pub same_self : (w : WorldState) → IsSameWorld w w
-same_self w = record { old_number = refl; new_number = refl; base = refl; first = refl; limit = refl; generation = refl; retired = refl; old_faults = refl; new_faults = refl }
+same_self w = record { old_number = refl; new_number = refl; base = refl; first = refl; limit = refl; generation = refl; opened_faults = refl }
 
 pub same_then : (u v w : WorldState) → IsSameWorld u v → IsSameWorld v w → IsSameWorld u w
 same_then u v w p q = record {
@@ -43,9 +42,7 @@ same_then u v w p q = record {
   first = q.first ∙ p.first;
   limit = q.limit ∙ p.limit;
   generation = q.generation ∙ p.generation;
-  retired = q.retired ∙ p.retired;
-  old_faults = q.old_faults ∙ p.old_faults;
-  new_faults = q.new_faults ∙ p.new_faults;
+  opened_faults = q.opened_faults ∙ p.opened_faults;
 }
 
 -- ---- stores that tell told before
@@ -59,35 +56,37 @@ told_then u v w p q = record { old_told = λ e. p.old_told (q.old_told e); new_t
 pub tells_before : (w w' : WorldState) → ToldBefore w w' → Tells w' → Tells w
 tells_before w w' p t = record { old = p.old_told t.old; new = p.new_told t.new }
 
-pub stays_self : (w : WorldState) → Stays w w
-stays_self w = record { same = same_self w; told = told_self w; entries = refl; old_faults = omega arith; new_faults = omega arith }
+-- ---- the history afterwards
 
--- a refusal before anything is tried does nothing
-pub came_bad : (w : WorldState) (r : BadRequest) → CameOut w (asked.Refused r) (Bad r) w
-came_bad w r = record {
+pub past_grown : (w w' : WorldState) (more : List Entry) → IsSameWorld w w' → w'.history.entries ≡ w.history.entries ++ more → past_of w' ≡ grown (past_of w) more
+past_grown w w' more same grew =
+    ap (λ n. record { window = record { first = n; base = table_of (rows_of w'.base); entries = w'.history.entries }; limit = w'.history.limit }) same.first
+    ∙ ap (λ b. record { window = record { first = w.history.first; base = table_of (rows_of b); entries = w'.history.entries }; limit = w'.history.limit }) same.base
+    ∙ ap (λ (l : List Entry). record { window = record { first = w.history.first; base = table_of (rows_of w.base); entries = l }; limit = w'.history.limit }) grew
+    ∙ ap (λ n. record { window = record { first = w.history.first; base = table_of (rows_of w.base); entries = w.history.entries ++ more }; limit = n }) same.limit
+
+-- ---- what is refused before anything is tried
+
+pub added_self : (c : ℕ) (w : WorldState) → Added c w w
+added_self c w = record { more = []; grew = sym (append-nil w.history.entries); own = All-nil (λ (e : Entry). e.caller ≡ c); retired = refl }
+
+none_behind : (c : ℕ) (past : Past) → NoneOf c (entries_from past (past_end past))
+none_behind c past =
+    subst (NoneOf c) (sym (drop_all (past_end past - past.window.first) past.window.entries (omega arith))) (All-nil (λ (e : Entry). e.caller ≡ c → ⊥))
+
+-- items that have no marks leave the history as it is
+pub fits_none : (c : ℕ) (T : Type 0) (past : Past) → FitsFrom c T past (past_end past) [] []
+fits_none c T past = record { marks = tt; no_batch = All-nil (λ (m : Mark). MayStay m.entry); behind_them = none_behind c past }
+
+pub came_bad : (c : ℕ) (w : WorldState) (r : BadRequest) (bytes : List ℕ) → CameOut c w (record { asks = asked.Refused r; outcome = Bad r; reply = bytes; marks = [] }) w
+came_bad c w r bytes = record {
   same = same_self w;
   told = told_self w;
-  entries = refl;
-  room = tt;
-  refused = tt;
-  cause = λ e. absurd (let h : false ≡ true = e in cc);
-  old_faults = omega arith;
-  new_faults = omega arith;
+  fits = (record { marks = tt; room = tt }, fits_none c (Tells w) (past_of w));
 }
 
--- ---- the entries that a caller's own makes of those before
-
-abbrev pub own : List Entry → Option What → List Entry
-own xs None = []
-own xs (Some w) = entry_of xs 0 w ∷ []
-
-pub entries_own : (xs : List Entry) (o : Option What) → entries_with xs 0 o ≡ xs ++ own xs o
-entries_own xs None = sym (append-nil xs)
-entries_own xs (Some w) = refl
-
-take_old : (xs : List Entry) (o : Option What) → take (length xs) (entries_with xs 0 o) ≡ xs
-take_old xs None = take-length xs
-take_old xs (Some w) = take-append_seam xs (entry_of xs 0 w ∷ [])
+pub caused_bad : (s : Counts) (r : BadRequest) (bytes : List ℕ) → IsCaused s (record { asks = asked.Refused r; outcome = Bad r; reply = bytes; marks = [] }) s
+caused_bad s r bytes = record { later = most_self s; rose = λ e. absurd (let h : false ≡ true = e in cc); still = λ e. refl }
 
 -- ---- from the world's clause
 
@@ -95,138 +94,45 @@ if_told : {A : Type 0} (x : Option A) (Q : Type 0) → is_some x ≡ true → If
 if_told None Q e h = absurd (let f : false ≡ true = e in cc)
 if_told (Some a) Q e h = h
 
-reply_some : (refusal : Refusal) (o : Option Refusal) → reply.Refused refusal ≡ refusal_reply o → o ≡ Some refusal
-reply_some refusal None e = absurd (let f : reply.Refused refusal ≡ reply.NoReply = e in cc)
-reply_some refusal (Some r) e = let f : reply.Refused refusal ≡ reply.Refused r = e in cc
+-- the entries that were added
+added_by : (xs : List Entry) (numbers : List (ℕ × ℕ)) (c : ℕ) (o : Option NewEntry) → (own : List Entry) × (entries_with xs numbers c o ≡ xs ++ own) × AreOwn c o own
+added_by xs numbers c None = ([], sym (append-nil xs), refl)
+added_by xs numbers c (Some e) = (entry_of numbers c e.what ∷ [], refl, (_, refl))
 
-cause_first : (refusal : Refusal) (o : Option Cause) (op : Op) (table : Table) → cause_in table op ≡ o → refusal_of (op ∷ []) table ≡ Some refusal → refusal_of (op ∷ []) table ≡ Some (refusal_at 0 refusal.cause)
-cause_first refusal None op table e h = absurd (let f : None ≡ Some refusal = rw e at h in cc)
-cause_first refusal (Some cause) op table e h =
-    let f : Some (refusal_at 0 cause) ≡ Some refusal = rw e at h in
-    let g : refusal_at 0 cause ≡ refusal = cc in
-    h ∙ sym f ∙ ap (λ (r : Refusal). Some (refusal_at 0 r.cause)) g
+own_callers : (c : ℕ) (o : Option NewEntry) (own : List Entry) → AreOwn c o own → All (λ (e : Entry). e.caller ≡ c) own
+own_callers c None own a = subst (All (λ (e : Entry). e.caller ≡ c)) (sym a) (All-nil (λ (e : Entry). e.caller ≡ c))
+own_callers c (Some e) own a =
+    subst (All (λ (e : Entry). e.caller ≡ c)) (sym a.1) (All-cons (λ (e : Entry). e.caller ≡ c) (record { caller = c; number = a.0; what = e.what }) [] refl (All-nil (λ (e : Entry). e.caller ≡ c)))
 
-module _ (w w' : WorldState) (op : Op) (same : IsSameWorld w w') (o : Option What) (entries : w'.history.entries ≡ entries_with w.history.entries 0 o) where
-  old_entries : take (length w.history.entries) w'.history.entries ≡ w.history.entries
-  old_entries = ap (take (length w.history.entries)) entries ∙ take_old w.history.entries o
+module _ (w w' : WorldState) where
+  replies_then : (o : Option NewEntry) (past : Past) → table_found past (past_end (past_of w)) ≡ table_now w → RepliesAt w o w' → Tells w' → RepliesFound past (past_end (past_of w)) o
+  replies_then None past same r t = tt
+  replies_then (Some e) past same r t = subst (λ table. Replies e.what table e.reply) (sym same) (if_told w'.new_store.told _ t.new (if_told w'.old_store.told _ t.old r))
 
-  room_found : has_room (found (past_of w') (length w.history.entries)) (batch_weight (op ∷ [])) ≡ has_room w.history (batch_weight (op ∷ []))
-  room_found =
-      ap (λ (l : List Entry). has_room (record { first = 0; entries = l; limit = w'.history.limit; spare = 0 }) (batch_weight (op ∷ []))) old_entries
-      ∙ ap (λ m. has_room (record { first = 0; entries = w.history.entries; limit = m; spare = 0 }) (batch_weight (op ∷ []))) same.limit
-
-  table_was : table_found (past_of w') (length w.history.entries) ≡ table_now w
-  table_was = ap (λ (l : List Entry). replay (table_of (rows_of w'.base)) l) old_entries ∙ ap (λ b. replay (table_of (rows_of b)) w.history.entries) same.base
-
-module _ (w w' : WorldState) (op : Op) (echo : Echo) where
-  pub came_done : (tags : List Tag) (tag : Tag) → tags ≡ tag ∷ [] → ToldBefore w w' → Answers w 0 (op ∷ []) (Ok (answer.Written tags)) w' → CameOut w (asked.Write op echo) (Done tag) w'
-  came_done tags tag one told a =
-      let entries : w'.history.entries ≡ entries_with w.history.entries 0 (Some (what.Batch (op ∷ []) (tag ∷ []))) = a.entries ∙ ap (λ ts. entries_with w.history.entries 0 (Some (what.Batch (op ∷ []) ts))) one in
-      record {
+-- a call of one operation that was finished, with no other caller between
+pub tried : (c : ℕ) (w w' : WorldState) (op : Op) (o : Outcome) (marks : List Mark) (r : Result Answer TurnFault) → ToldBefore w w' → BatchAnswers w c (op ∷ []) marks r w'
+    → option_to_list (batch_entry (op ∷ []) r) ≡ left_by op o → turns.is_full r ≡ is_full (outcome_of o) → (is_fault (outcome_of o) ≡ true → r ≡ Err fault.StoreFault) → (is_fault (outcome_of o) ≡ false → counts_of w' ≡ counts_of w) → Tried c w op o marks w'
+tried c w w' op o marks r told a left full faulty still =
+    let e : Option NewEntry = batch_entry (op ∷ []) r in
+    let more : (own : List Entry) × (entries_with w.history.entries w.numbers c e ≡ w.history.entries ++ own) × AreOwn c e own = added_by w.history.entries w.numbers c e in
+    let own : List Entry = more.0 in
+    let grew : w'.history.entries ≡ w.history.entries ++ own = a.entries ∙ more.1 in
+    record {
+      left = left_at (past_end (past_of w)) e marks a.marks_are ∙ left;
+      came = λ echo reply. record {
         same = a.same;
         told = told;
-        entries = entries;
-        room = a.full ∙ ap not (sym (room_found w w' op a.same (Some (what.Batch (op ∷ []) (tag ∷ []))) entries));
-        refused = tt;
-        cause = λ e. absurd (let h : false ≡ true = e in cc);
-        old_faults = a.old_faults;
-        new_faults = a.new_faults;
-      }
+        fits = subst (λ p. FitsFrom c (Tells w') p (past_end (past_of w)) (record { asks = asked.Write op echo; outcome = outcome_of o; reply = reply; marks = marks } ∷ []) []) (sym (past_grown w w' own a.same grew)) (
+          record {
+            marks = marks_at c (Tells w') (past_of w) e own more.2 (replies_then w w' e (grown (past_of w) own) (table_at c (Tells w') (past_of w) e own more.2) a.replies) marks a.marks_are;
+            room = sym full ∙ a.full ∙ sym (room_at c (Tells w') (past_of w) e own more.2 (batch_weight (op ∷ [])) marks a.marks_are);
+          },
+          record { marks = tt; no_batch = All-nil (λ (m : Mark). MayStay m.entry); behind_them = none_at c (Tells w') (past_of w) e own more.2 marks a.marks_are },
+        );
+      };
+      caused = λ echo reply. record { later = record { old_store = a.old_faults; new_store = a.new_faults }; rose = λ f. a.cause (faulty f); still = λ n. still n };
+      added = record { more = own; grew = grew; own = own_callers c e own more.2; retired = a.retired };
+    }
 
-  pub came_refused : (refusal : Refusal) → ToldBefore w w' → Answers w 0 (op ∷ []) (Ok (answer.Refused refusal)) w' → CameOut w (asked.Write op echo) (Refused refusal.cause) w'
-  came_refused refusal told a =
-      record {
-        same = a.same;
-        told = told;
-        entries = a.entries;
-        room = a.full ∙ ap not (sym (room_found w w' op a.same (Some (what.Refused (op ∷ []))) a.entries));
-        refused = λ t.
-            let replied : reply.Refused refusal ≡ refusal_reply (refusal_of (op ∷ []) (table_now w)) = if_told w'.new_store.told _ t.new (if_told w'.old_store.told _ t.old a.replies) in
-            ap (refusal_of (op ∷ [])) (table_was w w' op a.same (Some (what.Refused (op ∷ []))) a.entries) ∙ cause_first refusal (cause_in (table_now w) op) op (table_now w) refl (reply_some refusal (refusal_of (op ∷ []) (table_now w)) replied);
-        cause = λ e. absurd (let h : false ≡ true = e in cc);
-        old_faults = a.old_faults;
-        new_faults = a.new_faults;
-      }
-
-  pub came_fault : ToldBefore w w' → Answers w 0 (op ∷ []) (Err fault.StoreFault) w' → CameOut w (asked.Write op echo) Fault w'
-  came_fault told a = record {
-    same = a.same;
-    told = told;
-    entries = a.entries;
-    room = a.full ∙ ap not (sym (room_found w w' op a.same (Some what.Fault) a.entries));
-    refused = tt;
-    cause = λ e. a.cause refl;
-    old_faults = a.old_faults;
-    new_faults = a.new_faults;
-  }
-
-  pub came_full : ToldBefore w w' → Answers w 0 (op ∷ []) (Err fault.HistoryFull) w' → CameOut w (asked.Write op echo) Full w'
-  came_full told a = record {
-    same = a.same;
-    told = told;
-    entries = a.entries;
-    room = a.full ∙ ap not (sym (room_found w w' op a.same None a.entries));
-    refused = tt;
-    cause = λ e. absurd (let h : false ≡ true = e in cc);
-    old_faults = a.old_faults;
-    new_faults = a.new_faults;
-  }
-
-pub came_to_nothing : (w w' : WorldState) (op : Op) → ToldBefore w w' → Answers w 0 (op ∷ []) (Err fault.NoMemory) w' → Stays w w'
-came_to_nothing w w' op told a = record { same = a.same; told = told; entries = a.entries; old_faults = a.old_faults; new_faults = a.new_faults }
-
--- ---- an exchange that came out fits where it stands
-
-module _ (w w' : WorldState) (asks : Asked) (said : Said) (came : CameOut w asks said w') where
-  abbrev its_own : List Entry
-  its_own = own w.history.entries (what_of asks said)
-
-  pub entries_are : w'.history.entries ≡ w.history.entries ++ its_own
-  entries_are = came.entries ∙ entries_own w.history.entries (what_of asks said)
-
-  pub past_is : past_of w' ≡ past_with (table_of (rows_of w.base)) w.history.limit (w.history.entries ++ its_own)
-  past_is =
-      ap (λ b. past_with (table_of (rows_of b)) w'.history.limit w'.history.entries) came.same.base
-      ∙ ap (λ m. past_with (table_of (rows_of w.base)) m w'.history.entries) came.same.limit
-      ∙ ap (past_with (table_of (rows_of w.base)) w.history.limit) entries_are
-
-own_long : (xs : List Entry) (o : Option What) → length (xs ++ own xs o) ≡ place_after o (length xs)
-own_long xs None = ap length (append-nil xs)
-own_long xs (Some w) = grind (arith, Rattle.std.proofs.lemmas.Grind.common_steps)
-
-own_stands : (xs : List Entry) (o : Option What) → StandsAt 0 (drop (length xs) (xs ++ own xs o)) o
-own_stands xs None = tt
-own_stands xs (Some w) = (_, [], drop-append_seam xs (own xs (Some w)))
-
-pub own_callers : (xs : List Entry) (o : Option What) → All (λ (e : Entry). e.caller ≡ 0) (own xs o)
-own_callers xs None = All-nil (λ (e : Entry). e.caller ≡ 0)
-own_callers xs (Some w) = All-cons (λ (e : Entry). e.caller ≡ 0) (entry_of xs 0 w) [] refl (All-nil (λ (e : Entry). e.caller ≡ 0))
-
-place_grows : (o : Option What) (n : ℕ) → n ≤ place_after o n
-place_grows None n = omega arith
-place_grows (Some w) n = omega arith
-
-module _ (w w' : WorldState) (e : Exchange) (came : CameOut w e.asks e.said w') (place : e.place ≡ length w.history.entries) where
-  abbrev xs : List Entry
-  xs = w.history.entries
-
-  abbrev ys : List Entry
-  ys = own w.history.entries (what_of e.asks e.said)
-
-  pub fits_now : FitsAt 0 (Tells w') (past_with (table_of (rows_of w.base)) w.history.limit (xs ++ ys)) (length xs) e
-  fits_now = record {
-    order = omega (arith, place);
-    within = omega (arith, place, own_long xs (what_of e.asks e.said), place_grows (what_of e.asks e.said) (length xs));
-    between = subst (λ n. NoneOf 0 (take (n - length xs) (drop (length xs) (xs ++ ys)))) (sym place)
-        (subst (λ n. NoneOf 0 (take n (drop (length xs) (xs ++ ys)))) (let z : 0 ≡ length xs - length xs = omega arith in z) (All-nil _));
-    stands = subst (λ n. StandsAt 0 (drop n (xs ++ ys)) (what_of e.asks e.said)) (sym place) (own_stands xs (what_of e.asks e.said));
-    room = subst (λ n. HadRoom (past_with (table_of (rows_of w.base)) w.history.limit (xs ++ ys)) n e.asks e.said) (sym place)
-        (subst (λ p. HadRoom p (length xs) e.asks e.said) (past_is w w' e.asks e.said came) came.room);
-    refused = subst (λ n. IsRefusedAt (Tells w') (past_with (table_of (rows_of w.base)) w.history.limit (xs ++ ys)) n e.asks e.said) (sym place)
-        (subst (λ p. IsRefusedAt (Tells w') p (length xs) e.asks e.said) (past_is w w' e.asks e.said came) came.refused);
-  }
-
-  pub none_behind : NoneOf 0 (drop (place_after (what_of e.asks e.said) e.place) (xs ++ ys))
-  none_behind =
-      subst (NoneOf 0) (sym (drop_all (place_after (what_of e.asks e.said) e.place) (xs ++ ys)
-      (let l : length (xs ++ ys) ≡ place_after (what_of e.asks e.said) e.place = own_long xs (what_of e.asks e.said) ∙ ap (place_after (what_of e.asks e.said)) (sym place) in omega (arith, l)))) (All-nil _)
+pub tried_in_vain : (c : ℕ) (w w' : WorldState) (op : Op) (marks : List Mark) → ToldBefore w w' → BatchAnswers w c (op ∷ []) marks (Err fault.NoMemory) w' → counts_of w' ≡ counts_of w → LeavesNothing w w'
+tried_in_vain c w w' op marks told a still = record { same = a.same; retired = a.retired; told = told; entries = a.entries; still = still }

@@ -2,7 +2,10 @@ mod AskLaws
 mod BodyKeyLaws
 mod CallLaws
 mod CameLaws
+pub mod CauseLaws
 pub mod FitLaws
+mod OwnLaws
 mod RefusalLaws
 mod ReplyLaws
+mod SpellLaws
 mod TalkLaws

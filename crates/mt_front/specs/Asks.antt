@@ -49,12 +49,12 @@ insert_echo true = echo.NoContent
 insert_echo false = echo.Entity
 
 -- the two texts of a body's key
-pub record HasKeys (body : Body) (pk rk : List ℕ) : Type 0 where
+pub record BodyHasKeys (body : Body) (pk rk : List ℕ) : Type 0 where
   pub pk_is : body.pk ≡ Some pk
   pub rk_is : body.rk ≡ Some rk
 
 abbrev pub InsertBy : Bool → Result Body JsonFault → Asked → Type 0
-InsertBy no_content (Ok body) asked = (pk : List ℕ) × (rk : List ℕ) × HasKeys body pk rk
+InsertBy no_content (Ok body) asked = (pk : List ℕ) × (rk : List ℕ) × BodyHasKeys body pk rk
     × KeyedBy (key_fault pk rk) (asked ≡ Write (op.Insert (key_at pk rk) body.props) (insert_echo no_content)) asked
 InsertBy no_content (Err fault) asked = IsRefused (body_refusal fault) asked
 
@@ -115,8 +115,8 @@ AsksOn route.Table m no_content bytes asked = AsksInsert no_content bytes asked
 AsksOn (route.Entity action pk rk) m no_content bytes asked =
     MatchedBy (match_refusal action m) (KeyedBy (key_fault pk rk) (AsksAction action (condition_of m) (key_at pk rk) bytes asked) asked) asked
 
-abbrev pub Asks : PlainRequest → Asked → Type 0
-Asks p asked = AsksOn p.route p.if_match p.no_content p.body asked
+abbrev pub RequestAsks : PlainRequest → Asked → Type 0
+RequestAsks p asked = AsksOn p.route p.if_match p.no_content p.body asked
 
 -- the operation keeps the rules of a batch, the reply can show of it what is asked, and its properties have at most 1 MiB
 abbrev pub CanTry : Asked → Type 0

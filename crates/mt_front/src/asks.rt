@@ -7,7 +7,7 @@ ghost use Rattle.mt_chain.specs.Rows.{key_at};
 ghost use Rattle.mt_chain.specs.declared.op.Op.TheVariants as op;
 ghost use Rattle.mt_plain.specs.declared.request.Route.TheVariants as route;
 ghost use Rattle.mt_front.specs.declared.asks.Asked.TheVariants as asked;
-ghost use Rattle.mt_front.specs.Asks.{HasKeys, IsRefused, KeyedBy, InsertBy, AsksInsert, AsksAction, AsksWith, AsksOn, Asks, CanTry, insert_echo, match_refusal, condition_of, put_op, merge_op};
+ghost use Rattle.mt_front.specs.Asks.{BodyHasKeys, IsRefused, KeyedBy, InsertBy, AsksInsert, AsksAction, AsksWith, AsksOn, RequestAsks, CanTry, insert_echo, match_refusal, condition_of, put_op, merge_op};
 
 #[cfg(test)]
 mod tests;
@@ -86,7 +86,7 @@ fn insert_at(
 
 /// What an insert asks for whose body was read with its keys in it.
 fn insert_of(alloc: Global, no_content: bool, body: Body) -> Result<Asked, NoMemory>
-    requires keys { (pk rk : List ℕ) × HasKeys body pk rk }
+    requires keys { (pk rk : List ℕ) × BodyHasKeys body pk rk }
     requires visible { list_any (λ p. is_hidden p.name) body.props ≡ false }
     ensures asks { IfOk result (InsertBy no_content (Ok body)) }
     ensures may { IfOk result CanTry }
@@ -241,7 +241,7 @@ fn entity_by(
 /// to be there and to meet it. The operation's key keeps the rules of keys, it has no hidden property,
 /// and its properties have at most 1,048,576 bytes. The one error is want of memory.
 pub fn asked_by(alloc: Global, request: PlainRequest) -> Result<Asked, NoMemory>
-    ensures asks { IfOk result (Asks request) }
+    ensures asks { IfOk result (RequestAsks request) }
     ensures may { IfOk result CanTry }
 {
     let PlainRequest {

@@ -3,19 +3,18 @@ ghost use Rattle.std.specs.Prelude.{◌≡◌, ◌≤◌, ◌∷◌, [], length}
 ghost use Rattle.mt_model.specs.Props.{visible_size};
 ghost use Rattle.mt_chain.specs.Effect.{op_props};
 ghost use Rattle.mt_rules.specs.Batches.{MayAsk};
-ghost use Rattle.mt_world.specs.Worlds.{IsWorld};
 ghost use Rattle.mt_plain.specs.Left.{ahead};
 ghost use Rattle.mt_front.specs.declared.asks.Asked.TheVariants as asked;
 ghost use Rattle.mt_front.specs.Asks.{CanTry};
 ghost use Rattle.mt_front.specs.Session.{Serves};
-ghost use Rattle.mt_front.specs.Turns.{Tries, Replies, AnswersOne, AnswersRequest, Refuses, Turned};
+ghost use Rattle.mt_front.specs.Turns.{Tries, WritesReply, AnswersOne, AnswersRequest, RefusesRest, SessionTurn};
 
 use crate::asks::{Asked, Echo, asked_by};
 use crate::batch::batch_of;
 use crate::refusals::{bad_request, cause_reply, history_full, store_fault, unsupported};
 use crate::reply::{done, prepare};
-use mt_chain::{Cause, Keeper, Op, Tags};
-use mt_io::{Sink, Source, send};
+use mt_chain::{Keeper, Op, Refusal, Tags};
+use mt_io::{IoFault, Sink, Source, send};
 use mt_model::{NoMemory, Tag, Text};
 use mt_plain::{Incoming, PlainRequest, ReadFault, Reader, read_request};
 use mt_world::{Answer, Request, TurnFault, World};
@@ -59,7 +58,7 @@ enum Outcome {
     Done(Tag),
 
     /// The table refused it.
-    Refused(Cause),
+    Refused(Refusal),
 
     /// A store failed.
     Fault,
@@ -83,11 +82,11 @@ const CALLER: u32 = 0;
 
 /// Writes a reply.
 fn reply<T: Sink>(sink: &mut T, bytes: &[u8]) -> Result<(), ConnFault>
-    ensures { Replies (T.output sink.old) bytes.now result (T.output sink.new) }
+    ensures { WritesReply (T.output sink.old) bytes.now result (T.output sink.new) }
 {
     match send(sink, bytes) {
         Ok(()) => Ok(()),
-        Err(_) => Err(ConnFault::WriteFault),
+        Err(IoFault::Failed) => Err(ConnFault::WriteFault),
     }
 }
 
@@ -105,13 +104,13 @@ fn only_tag(tags: &Tags) -> Tag
 /// Tries an operation on the world, as a batch of one. The one error is want of memory.
 fn try_op<K: Keeper>(alloc: Global, world: &mut World<K>, op: Op) -> Result<Outcome, NoMemory>
     requires { MayAsk op × (visible_size (op_props op) ≤ 1048576) }
-    ensures { Tries world.old op result world.new }
+    ensures { Tries 0 world.old op result world.new }
 {
     let batch = batch_of(alloc, op)?;
     let call = world.call_of(alloc, Request::Batch(batch))?;
     match world.finish(alloc, CALLER, call) {
         Ok(Answer::Written(tags)) => Ok(Outcome::Done(only_tag(&tags))),
-        Ok(Answer::Refused(refusal)) => Ok(Outcome::Refused(refusal.cause)),
+        Ok(Answer::Refused(refusal)) => Ok(Outcome::Refused(refusal)),
         Err(TurnFault::StoreFault) => Ok(Outcome::Fault),
         Err(TurnFault::HistoryFull) => Ok(Outcome::Full),
         Err(TurnFault::NoMemory) => Err(NoMemory),
@@ -128,14 +127,14 @@ fn write_row<K: Keeper, T: Sink>(
     echo: Echo,
 ) -> Result<(), ConnFault>
     requires { CanTry (asked.Write op echo) }
-    ensures { AnswersOne world.old (T.output sink.old) (asked.Write op echo) result world.new (T.output sink.new) }
+    ensures { AnswersOne 0 world.old (T.output sink.old) (asked.Write op echo) result world.new (T.output sink.new) }
 {
     let Ok(prepared) = prepare(alloc, &op, echo) else {
         return Err(ConnFault::NoMemory);
     };
     match try_op(alloc, world, op) {
         Ok(Outcome::Done(tag)) => reply(sink, &done(prepared, tag)),
-        Ok(Outcome::Refused(cause)) => reply(sink, cause_reply(cause).as_bytes()),
+        Ok(Outcome::Refused(refusal)) => reply(sink, cause_reply(refusal.cause).as_bytes()),
         Ok(Outcome::Fault) => reply(sink, store_fault().as_bytes()),
         Ok(Outcome::Full) => reply(sink, history_full().as_bytes()),
         Err(NoMemory) => Err(ConnFault::NoMemory),
@@ -150,7 +149,7 @@ fn answer<K: Keeper, T: Sink>(
     asks: Asked,
 ) -> Result<(), ConnFault>
     requires { CanTry asks }
-    ensures { AnswersOne world.old (T.output sink.old) asks result world.new (T.output sink.new) }
+    ensures { AnswersOne 0 world.old (T.output sink.old) asks result world.new (T.output sink.new) }
 {
     match asks {
         Asked::Write { op, echo } => write_row(alloc, world, sink, op, echo),
@@ -165,7 +164,7 @@ fn answer_request<K: Keeper, T: Sink>(
     sink: &mut T,
     request: PlainRequest,
 ) -> Result<(), ConnFault>
-    ensures { AnswersRequest world.old (T.output sink.old) request result world.new (T.output sink.new) }
+    ensures { AnswersRequest 0 world.old (T.output sink.old) request result world.new (T.output sink.new) }
 {
     let Ok(asks) = asked_by(alloc, request) else {
         return Err(ConnFault::NoMemory);
@@ -175,7 +174,7 @@ fn answer_request<K: Keeper, T: Sink>(
 
 /// Refuses what is left of the input.
 fn refuse<T: Sink>(sink: &mut T) -> Result<Turn, ConnFault>
-    ensures { Refuses (T.output sink.old) result (T.output sink.new) }
+    ensures { RefusesRest (T.output sink.old) result (T.output sink.new) }
 {
     match reply(sink, unsupported().as_bytes()) {
         Ok(()) => Ok(Turn::Ended(End::BadInput)),
@@ -192,7 +191,7 @@ fn take_turn<K: Keeper, S: Source, T: Sink>(
     source: &mut S,
     sink: &mut T,
 ) -> Result<Turn, ConnFault>
-    ensures { Turned table.now (ahead reader.old (S.input source.old)) (S.input source.old) (T.output sink.old) world.old result
+    ensures { SessionTurn 0 table.now (ahead reader.old (S.input source.old)) (S.input source.old) (T.output sink.old) world.old result
         (ahead reader.new (S.input source.new)) (S.input source.new) (T.output sink.new) world.new }
 {
     match read_request(alloc, table, reader, source) {
@@ -207,15 +206,23 @@ fn take_turn<K: Keeper, S: Source, T: Sink>(
     }
 }
 
-/// Takes turns until one ends the connection.
-fn take_turns<K: Keeper, S: Source, T: Sink>(
+/// Serves a connection on a table as the world's caller 0, to the end of its input, to the first bytes
+/// that are no whole plain request, or to the first fault of reading, of writing or of memory.
+///
+/// Each request is answered from the world: refused before anything is tried, done, refused by the
+/// table, or answered with 500 where a store failed and with 507 where the history is full; then the
+/// connection goes on. What is no plain request is answered with 501, and the connection ends. All
+/// memory for a reply is taken before the store calls, so that a write that was done is answered.
+///
+/// At most 2^64 - 1 replies are written; the end of this count is told as want of memory.
+pub fn session<K: Keeper, S: Source, T: Sink>(
     alloc: Global,
     world: &mut World<K>,
     table: &Text,
     source: &mut S,
     sink: &mut T,
 ) -> Result<Served, ConnFault>
-    ensures { IsWorld world.new → Serves table.now world.old (S.input source.old) (T.output sink.old) result world.new (S.input source.new) (T.output sink.new) }
+    ensures { Serves 0 table.now world.old (S.input source.old) (T.output sink.old) result world.new (S.input source.new) (T.output sink.new) }
 {
     let mut reader = Reader::new(alloc);
     'requests: for requests in 0..u64::MAX {
@@ -237,28 +244,4 @@ fn take_turns<K: Keeper, S: Source, T: Sink>(
         }
     }
     Err(ConnFault::NoMemory)
-}
-
-/// Serves a connection on a table as the world's caller 0, to the end of its input, to the first bytes
-/// that are no whole plain request, or to the first fault of reading, of writing or of memory.
-///
-/// Each request is answered from the world: refused before anything is tried, done, refused by the
-/// table, or answered with 500 where a store failed and with 507 where the history is full; then the
-/// connection goes on. What is no plain request is answered with 501, and the connection ends. All
-/// memory for a reply is taken before the store calls, so that a write that was done is answered.
-///
-/// At most 2^64 - 1 replies are written; the end of this count is told as want of memory.
-pub fn session<K: Keeper, S: Source, T: Sink>(
-    alloc: Global,
-    world: &mut World<K>,
-    table: &Text,
-    source: &mut S,
-    sink: &mut T,
-) -> Result<Served, ConnFault>
-    ensures { Serves table.now world.old (S.input source.old) (T.output sink.old) result world.new (S.input source.new) (T.output sink.new) }
-{
-    let served = take_turns(alloc, world, table, source, sink);
-    // What a world keeps is told by what is asked of it.
-    let _ = world.calls();
-    served
 }

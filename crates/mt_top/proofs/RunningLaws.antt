@@ -6,16 +6,9 @@ use Rattle.mt_io.specs.Ends.{Input, Output}
 use Rattle.mt_chain.specs.StoreCall.{Contents}
 use Rattle.mt_chain.specs.Store.{Store, Rose, Onward, Same}
 use Rattle.mt_chain.specs.Shelf.{Shelf, HandedOut, SameBeside, TakesBack}
-use Rattle.mt_chain.specs.Table.{empty_table, table_of}
 use Rattle.mt_history.specs.declared.entry.Entry.{Entry}
-use Rattle.mt_history.specs.Replies.{rows_of}
-use Rattle.mt_history.specs.Legal.{IsLegal}
-use Rattle.mt_history.specs.Window.{replay}
-use Rattle.mt_meta.specs.Logical.{Pair}
-use Rattle.mt_meta.specs.Sound.{IsSound}
-use Rattle.mt_meta.specs.Steps.{logical_table}
-use Rattle.mt_world.specs.Worlds.{WorldState, Tells, IsReplayed, IsWorld, window_of}
-use Rattle.mt_world.specs.Worlds as worlds
+use Rattle.mt_meta.specs.Logical.{pair_of as pair_with}
+use Rattle.mt_world.specs.Worlds.{WorldState, Tells, IsReplayed, IsWorld, pair_of}
 use Rattle.mt_world.specs.declared.opening.OpenFault.{OpenFault}
 use Rattle.mt_world.specs.declared.opening.OpenFault.TheVariants as opening
 use Rattle.mt_world.specs.Opening.{IsFresh, Opened, IsFirstNotFresh, ComesBack}
@@ -24,13 +17,14 @@ use Rattle.mt_front.specs.declared.connection.End.{End}
 use Rattle.mt_front.specs.declared.connection.Served.{Served as ServedTo}
 use Rattle.mt_front.specs.declared.connection.ConnFault.{ConnFault}
 use Rattle.mt_front.specs.declared.connection.ConnFault.TheVariants as conn
-use Rattle.mt_front.specs.Answers.{Exchange, FitsFrom, faults_of}
-use Rattle.mt_front.specs.Session.{past_of, SessionAs, EndsAs, Serves, Talk}
-use Rattle.mt_front.specs.Session as session
-use Rattle.mt_front.proofs.FitLaws.{past_with, fits_sooner}
+use Rattle.mt_front.specs.Items.{Item, faults_of}
+use Rattle.mt_front.specs.Answers.{FitsFrom, AreCaused, past_end}
+use Rattle.mt_front.specs.Session.{past_of, counts_of, SessionAs, EndsAs, Serves}
+use Rattle.mt_front.proofs.CauseLaws.{caused_sum}
+use Rattle.mt_front.proofs.FitLaws.{fits_sooner}
 use Rattle.mt_top.specs.declared.running.Ending.{Ending}
 use Rattle.mt_top.specs.declared.running.Ending.TheVariants.{Served, BadWords, ReadFault, WriteFault, StoreFault, Occupied, Unsupported, NoMemory}
-use Rattle.mt_top.specs.Run.{table_name, history_limit, is_bad_words, Along, Tellings, Idle, NotFresh, AllTell, IsReplay, pair_of, window, past, Wrote, AreCaused, During, RunEnds, depot_tellings}
+use Rattle.mt_top.specs.Run.{Service, orders, is_bad_words, Along, Tellings, Idle, NotFresh, AllTell, IsReplay, Wrote, FaultsRose, During, RunEnds, depot_tellings}
 use Rattle.mt_top.specs.Endings.{ending_at, ending_of, opening_ending, tellings_of, Over, OverDepot}
 
 -- ---- one store before and after
@@ -53,26 +47,13 @@ fresh_along (Some a) (Some c) (Some b) same fresh told = subst IsFresh same fres
 
 -- ---- the world at the end
 
-module _ (w : WorldState) (numbers : (w.old_store.number ≡ 0) × (w.new_store.number ≡ 1)) (base : w.base ≡ []) (first : w.history.first ≡ 0) where
-  pairs : (b b' : Contents) → worlds.pair_of w b b' ≡ pair_of b b'
-  pairs b b' =
-      ap (λ n. record { old_number = n; new_number = w.new_store.number; old = b; new = b' }) numbers.0
-      ∙ ap (λ n. record { old_number = 0; new_number = n; old = b; new = b' }) numbers.1
+module _ (v : Service) (w : WorldState) (old_is : w.old_store.number ≡ v.old_number) (new_is : w.new_store.number ≡ v.new_number) where
+  is_replay : (b b' : Contents) → IsReplayed w (pair_of w b b') → IsReplay v w b b'
+  is_replay b b' r =
+      subst (λ n. IsReplayed w (pair_with v.old_number n b b')) new_is (subst (λ n. IsReplayed w (pair_with n w.new_store.number b b')) old_is r)
 
-  windows : window_of w ≡ window w.history.entries
-  windows =
-      ap (λ n. record { first = n; base = table_of (rows_of w.base); entries = w.history.entries }) first
-      ∙ ap (λ rows. record { first = 0; base = table_of (rows_of rows); entries = w.history.entries }) base
-
-  is_replay : (b b' : Contents) → IsReplayed w (worlds.pair_of w b b') → IsReplay w.history.entries (pair_of b b')
-  is_replay b b' r = record {
-    sound = subst IsSound (pairs b b') r.sound;
-    legal = subst IsLegal windows r.legal;
-    table = λ key. ap (λ (p : Pair). logical_table p key) (sym (pairs b b')) ∙ r.table key ∙ ap (λ rows. replay (table_of (rows_of rows)) w.history.entries key) base;
-  }
-
-  replayed_at : (x x' y y' : Option Contents) → IfSome y (λ b. IfSome y' (λ b'. IsReplayed w (worlds.pair_of w b b')))
-      → IfSome x (λ a. IfSome x' (λ a'. IfSome y (λ b. IfSome y' (λ b'. IsReplay w.history.entries (pair_of b b')))))
+  replayed_at : (x x' y y' : Option Contents) → IfSome y (λ b. IfSome y' (λ b'. IsReplayed w (pair_of w b b')))
+      → IfSome x (λ a. IfSome x' (λ a'. IfSome y (λ b. IfSome y' (λ b'. IsReplay v w b b'))))
   replayed_at None x' y y' r = tt
   replayed_at (Some a) None y y' r = tt
   replayed_at (Some a) (Some a') None y' r = tt
@@ -81,25 +62,25 @@ module _ (w : WorldState) (numbers : (w.old_store.number ≡ 0) × (w.new_store.
 
 -- ---- a session over both stores
 
-wrote_at : (s : Input) (o : Output) (es : List Exchange) (left : Option (List ℕ)) (requests : ℕ) (e : End) (t : Input) (x : Output) → EndsAs table_name o es left requests e t x → Wrote s o (ending_at e) es left t x
-wrote_at s o es left requests end.Input t x e = (e.0, e.1, e.2)
-wrote_at s o es left requests end.BadInput t x e = (e.0, e.1)
+wrote_at : (v : Service) (s : Input) (o : Output) (written : List ℕ) (count : ℕ) (left : Option (List ℕ)) (requests : ℕ) (e : End) (t : Input) (x : Output) → EndsAs v.table o written count left requests e t x → Wrote v s o (ending_at e) written left t x
+wrote_at v s o written count left requests end.Input t x e = (e.0, e.1, e.2)
+wrote_at v s o written count left requests end.BadInput t x e = (e.0, e.1)
 
-wrote : (s : Input) (o : Output) (es : List Exchange) (left : Option (List ℕ)) (r : Result ServedTo ConnFault) (t : Input) (x : Output) → SessionAs table_name s o es left r t x → Wrote s o (ending_of r) es left t x
-wrote s o es left (Ok served) t x e = wrote_at s o es left served.requests served.«end» t x e
-wrote s o es left (Err conn.ReadFault) t x e = e
-wrote s o es left (Err conn.WriteFault) t x e = e
-wrote s o es left (Err conn.NoMemory) t x e = e
+wrote : (v : Service) (s : Input) (o : Output) (written : List ℕ) (count : ℕ) (left : Option (List ℕ)) (r : Result ServedTo ConnFault) (t : Input) (x : Output) → SessionAs v.table s o written count left r t x → Wrote v s o (ending_of r) written left t x
+wrote v s o written count left (Ok served) t x e = wrote_at v s o written count left served.requests served.«end» t x e
+wrote v s o written count left (Err conn.ReadFault) t x e = e
+wrote v s o written count left (Err conn.WriteFault) t x e = e
+wrote v s o written count left (Err conn.NoMemory) t x e = e
 
-at_end_during : (s : Input) (o : Output) (c : Tellings) (before now : ℕ) (e : End) (t : Input) (x : Output) → During s o (ending_at e) c before now t x → RunEnds s o (ending_at e) c before now t x
-at_end_during s o c before now end.Input t x d = d
-at_end_during s o c before now end.BadInput t x d = d
+at_end_during : (v : Service) (s : Input) (o : Output) (c : Tellings) (before now : ℕ) (e : End) (t : Input) (x : Output) → During v s o (ending_at e) c before now t x → RunEnds v s o (ending_at e) c before now t x
+at_end_during v s o c before now end.Input t x d = d
+at_end_during v s o c before now end.BadInput t x d = d
 
-by_during : (s : Input) (o : Output) (c : Tellings) (before now : ℕ) (r : Result ServedTo ConnFault) (t : Input) (x : Output) → During s o (ending_of r) c before now t x → RunEnds s o (ending_of r) c before now t x
-by_during s o c before now (Ok served) t x d = at_end_during s o c before now served.«end» t x d
-by_during s o c before now (Err conn.ReadFault) t x d = d
-by_during s o c before now (Err conn.WriteFault) t x d = d
-by_during s o c before now (Err conn.NoMemory) t x d = inr d
+by_during : (v : Service) (s : Input) (o : Output) (c : Tellings) (before now : ℕ) (r : Result ServedTo ConnFault) (t : Input) (x : Output) → During v s o (ending_of r) c before now t x → RunEnds v s o (ending_of r) c before now t x
+by_during v s o c before now (Ok served) t x d = at_end_during v s o c before now served.«end» t x d
+by_during v s o c before now (Err conn.ReadFault) t x d = d
+by_during v s o c before now (Err conn.WriteFault) t x d = d
+by_during v s o c before now (Err conn.NoMemory) t x d = inr d
 
 spoken_at : (e : End) → is_bad_words (ending_at e) ≡ false
 spoken_at end.Input = refl
@@ -112,50 +93,56 @@ spoken (Err conn.WriteFault) = refl
 spoken (Err conn.NoMemory) = refl
 
 -- the counts of both stores together
-caused_both : (k l : Store) (w w' : WorldState) (es : List Exchange) → k.faults ≤ w.old_store.faults → l.faults ≤ w.new_store.faults → session.AreCaused w es w' → AreCaused (k.faults + l.faults) es (w'.old_store.faults + w'.new_store.faults)
-caused_both k l w w' es p q (inl h) = inl (omega (arith, p, q, h))
-caused_both k l w w' es p q (inr (inl h)) = inr (omega (arith, h))
-caused_both k l w w' es p q (inr (inr h)) = inr (omega (arith, h))
+caused_both : (k l : Store) (w w' : WorldState) (items : List Item) → k.faults ≤ w.old_store.faults → l.faults ≤ w.new_store.faults → AreCaused (counts_of w) items (counts_of w') → FaultsRose (k.faults + l.faults) items (w'.old_store.faults + w'.new_store.faults)
+caused_both k l w w' items p q h = elim (caused_sum (counts_of w) (counts_of w') items h) as (λ _. FaultsRose (k.faults + l.faults) items (w'.old_store.faults + w'.new_store.faults)) [
+  | inl sum ↦ inl (omega (arith, p, q, sum))
+  | inr (inl at) ↦ inr (omega (arith, at))
+  | inr (inr at) ↦ inr (omega (arith, at))
+]
 
-module _ (s : Input) (o : Output) (k l : Store) (w : WorldState) (r : Result ServedTo ConnFault) (w' : WorldState) (t : Input) (x : Output) where
-  during : Opened k l history_limit w → Serves table_name w s o r w' t x → During s o (ending_of r) (tellings_of k w'.old_store l w'.new_store) (k.faults + l.faults) (w'.old_store.faults + w'.new_store.faults) t x
+module _ (s : Input) (o : Output) (k l : Store) (w : WorldState) (r : Result ServedTo ConnFault) (w' : WorldState) (t : Input) (x : Output) (zero : k.number ≡ 0) (one : l.number ≡ 1) (world : IsWorld w') where
+  during : Opened k l orders.limit w → Serves 0 orders.table w s o r w' t x → During orders s o (ending_of r) (tellings_of k w'.old_store l w'.new_store) (k.faults + l.faults) (w'.old_store.faults + w'.new_store.faults) t x
   during opened served =
-      let base : w'.base ≡ [] = served.talk.same.base ∙ opened.base in
-      let limit : w'.history.limit ≡ history_limit = served.talk.same.limit ∙ opened.limit in
-      let pasts : past_of w' ≡ past w'.history.entries =
-      ap (λ rows. past_with (table_of (rows_of rows)) w'.history.limit w'.history.entries) base ∙ ap (λ n. past_with empty_table n w'.history.entries) limit in
+      let same = served.talk.same in
+      let first : w'.history.first ≡ 0 = same.first ∙ opened.first in
+      let started : past_end (past_of w) ≡ 0 = let n : length w.history.entries ≡ 0 = ap length opened.nothing in omega (arith, n, same.first, first) in
       record {
-        exchanges = served.exchanges;
+        items = served.items;
+        read = served.read;
+        written = served.written;
         left = served.left;
-        entries = w'.history.entries;
-        are = served.talk.are;
-        read = served.talk.read;
+        world = w';
+        world_is = record { base = same.base ∙ opened.base; limit = same.limit ∙ opened.limit; first = first };
+        spelled = served.spelled;
+        read_is = served.read_is;
+        answered = record {
+          rendered = served.talk.answered.rendered;
+          fits = fits_sooner 0 (Tells w') (AllTell (tellings_of k w'.old_store l w'.new_store)) (λ a. record { old = a.old_after; new = a.new_after }) (past_of w') 0 served.items []
+              (subst (λ n. FitsFrom 0 (Tells w') (past_of w') n served.items []) started served.talk.answered.fits);
+        };
         own = subst (λ (es : List Entry). All (λ (e : Entry). e.caller ≡ 0) es) (sym (served.talk.added.grew ∙ ap (λ (es : List Entry). es ++ served.talk.added.more) opened.nothing)) served.talk.added.own;
-        fits = fits_sooner 0 (Tells w') (AllTell (tellings_of k w'.old_store l w'.new_store)) (λ a. record { old = a.old_after; new = a.new_after }) (past w'.history.entries) 0 served.exchanges
-            (subst (λ n. FitsFrom 0 (Tells w') (past w'.history.entries) n served.exchanges) (ap length opened.nothing)
-            (subst (λ p. FitsFrom 0 (Tells w') p (length w.history.entries) served.exchanges) pasts served.talk.fits));
         fresh = (
           fresh_along k.told w.old_store.told w'.old_store.told opened.old_stays.contents opened.old_fresh served.talk.told.old_told,
           fresh_along l.told w.new_store.told w'.new_store.told opened.new_stays.contents opened.new_fresh served.talk.told.new_told,
         );
-        replayed = replayed_at w' served.world.numbers base served.world.whole k.told l.told w'.old_store.told w'.new_store.told served.world.replayed;
-        caused = caused_both k l w w' served.exchanges opened.old_stays.faults opened.new_stays.faults served.talk.caused;
-        wrote = wrote s o served.exchanges served.left r t x served.ends;
+        replayed = replayed_at orders w' (same.old_number ∙ opened.old_stays.number ∙ zero) (same.new_number ∙ opened.new_stays.number ∙ one) k.told l.told w'.old_store.told w'.new_store.told world.replayed;
+        caused = caused_both k l w w' served.items opened.old_stays.faults opened.new_stays.faults served.talk.caused;
+        wrote = wrote orders s o served.written (length served.items) served.left r t x served.ends;
       }
 
-  over_session : Opened k l history_limit w → Serves table_name w s o r w' t x → Over s o k l (ending_of r) t x w'.old_store w'.new_store
+  over_session : Opened k l orders.limit w → Serves 0 orders.table w s o r w' t x → Over s o k l (ending_of r) t x w'.old_store w'.new_store
   over_session opened served = record {
     number = served.talk.same.old_number ∙ opened.old_stays.number;
     number_new = served.talk.same.new_number ∙ opened.new_stays.number;
     spoken = spoken r;
-    ends = by_during s o (tellings_of k w'.old_store l w'.new_store) (k.faults + l.faults) (w'.old_store.faults + w'.new_store.faults) r t x (during opened served);
+    ends = by_during orders s o (tellings_of k w'.old_store l w'.new_store) (k.faults + l.faults) (w'.old_store.faults + w'.new_store.faults) r t x (during opened served);
   }
 
-  pub over_served : (table : List ℕ) (ending : Ending) (k' l' : Store) → table ≡ table_name → ending ≡ ending_of r → k' ≡ w'.old_store → l' ≡ w'.new_store → Opened k l history_limit w → Serves table w s o r w' t x → Over s o k l ending t x k' l'
+  pub over_served : (table : List ℕ) (ending : Ending) (k' l' : Store) → table ≡ orders.table → ending ≡ ending_of r → k' ≡ w'.old_store → l' ≡ w'.new_store → Opened k l orders.limit w → Serves 0 table w s o r w' t x → Over s o k l ending t x k' l'
   over_served table ending k' l' table_is ending_is old_is new_is opened served =
       subst (λ n. Over s o k l n t x k' l') (sym ending_is)
       (subst (λ m. Over s o k l (ending_of r) t x m l') (sym old_is)
-      (subst (λ m. Over s o k l (ending_of r) t x w'.old_store m) (sym new_is) (over_session opened (subst (λ n. Serves n w s o r w' t x) table_is served))))
+      (subst (λ m. Over s o k l (ending_of r) t x w'.old_store m) (sym new_is) (over_session opened (subst (λ n. Serves 0 n w s o r w' t x) table_is served))))
 
 -- ---- stores that were not opened
 
@@ -181,7 +168,7 @@ module _ (s : Input) (o : Output) (k l k' l' : Store) where
   rose_both (inl h) p q = let r : min (k.faults + 1) (2 ^ 64 - 1) ≤ k'.faults = h in let g : min (k.faults + l.faults + 1) (2 ^ 64 - 1) ≤ k'.faults + l'.faults = omega (arith, r, p, q) in g
   rose_both (inr h) p q = let r : min (l.faults + 1) (2 ^ 64 - 1) ≤ l'.faults = h in let g : min (k.faults + l.faults + 1) (2 ^ 64 - 1) ≤ k'.faults + l'.faults = omega (arith, r, p, q) in g
 
-  refused_ends : (f : OpenFault) → ComesBack k l f k' l' → RunEnds s o (opening_ending f) (tellings_of k k' l l') (k.faults + l.faults) (k'.faults + l'.faults) s o
+  refused_ends : (f : OpenFault) → ComesBack k l f k' l' → RunEnds orders s o (opening_ending f) (tellings_of k k' l l') (k.faults + l.faults) (k'.faults + l'.faults) s o
   refused_ends (opening.NotEmpty n) c = (idle_over (opening.NotEmpty n) c, not_fresh n c.old_stays.contents c.new_stays.contents c.refused)
   refused_ends opening.StoreFault c = (idle_over opening.StoreFault c, rose_both c.refused c.old_stays.faults c.new_stays.faults)
   refused_ends opening.NoMemory c = inl (idle_over opening.NoMemory c)
@@ -238,7 +225,7 @@ pub record Less (c c' : Tellings) : Type 0 where
 -- ---- what is so over the stores is so over the depot
 
 module _ (s : Input) (o : Output) (c c' : Tellings) (t : Input) (x : Output) (less : Less c c') (b n b' n' : ℕ) (zero : b ≡ 0) (grew : min (b' + n) (2 ^ 64 - 1) ≤ n') where
-  carried_caused : (es : List Exchange) → AreCaused b es n → AreCaused b' es n'
+  carried_caused : (es : List Item) → FaultsRose b es n → FaultsRose b' es n'
   carried_caused es (inl h) = elim (cases_lt n' (2 ^ 64 - 1)) as (λ _. (b' + faults_of es ≤ n') ⊎ (2 ^ 64 - 1 ≤ n')) [
     | inl lt ↦ inl (omega (arith, h, lt, grew))
     | inr ge ↦ inr ge
@@ -248,27 +235,33 @@ module _ (s : Input) (o : Output) (c c' : Tellings) (t : Input) (x : Output) (le
   carried_rose : Rose b n → Rose b' n'
   carried_rose h = let r : min (b + 1) (2 ^ 64 - 1) ≤ n = h in let g : min (b' + 1) (2 ^ 64 - 1) ≤ n' = omega (arith, r, zero, grew) in g
 
-  carried_during : (ending : Ending) → During s o ending c b n t x → During s o ending c' b' n' t x
+  carried_during : (ending : Ending) → During orders s o ending c b n t x → During orders s o ending c' b' n' t x
   carried_during ending d = record {
-    exchanges = d.exchanges;
-    left = d.left;
-    entries = d.entries;
-    are = d.are;
+    items = d.items;
     read = d.read;
+    written = d.written;
+    left = d.left;
+    world = d.world;
+    world_is = d.world_is;
+    spelled = d.spelled;
+    read_is = d.read_is;
+    answered = record {
+      rendered = d.answered.rendered;
+      fits = fits_sooner 0 (AllTell c) (AllTell c') (λ a. record {
+        old_before = some_less c.old_before c'.old_before less.old_before a.old_before;
+        old_after = some_less c.old_after c'.old_after less.old_after a.old_after;
+        new_before = some_less c.new_before c'.new_before less.new_before a.new_before;
+        new_after = some_less c.new_after c'.new_after less.new_after a.new_after;
+      }) (past_of d.world) 0 d.items [] d.answered.fits;
+    };
     own = d.own;
-    fits = fits_sooner 0 (AllTell c) (AllTell c') (λ a. record {
-      old_before = some_less c.old_before c'.old_before less.old_before a.old_before;
-      old_after = some_less c.old_after c'.old_after less.old_after a.old_after;
-      new_before = some_less c.new_before c'.new_before less.new_before a.new_before;
-      new_after = some_less c.new_after c'.new_after less.new_after a.new_after;
-    }) (past d.entries) 0 d.exchanges d.fits;
     fresh = (
       along_less (λ a b. IsFresh a) c.old_before c.old_after c'.old_before c'.old_after less.old_before less.old_after d.fresh.0,
       along_less (λ a b. IsFresh a) c.new_before c.new_after c'.new_before c'.new_after less.new_before less.new_after d.fresh.1,
     );
-    replayed = all_less (λ m m'. IsReplay d.entries (pair_of m m')) c.old_before c.new_before c.old_after c.new_after c'.old_before c'.new_before c'.old_after c'.new_after
+    replayed = all_less (IsReplay orders d.world) c.old_before c.new_before c.old_after c.new_after c'.old_before c'.new_before c'.old_after c'.new_after
         less.old_before less.new_before less.old_after less.new_after d.replayed;
-    caused = carried_caused d.exchanges d.caused;
+    caused = carried_caused d.items d.caused;
     wrote = d.wrote;
   }
 
@@ -280,7 +273,7 @@ module _ (s : Input) (o : Output) (c c' : Tellings) (t : Input) (x : Output) (le
     new_same = along_less Same c.new_before c.new_after c'.new_before c'.new_after less.new_before less.new_after i.new_same;
   }
 
-  carried_or : Idle s o c t x ⊎ During s o NoMemory c b n t x → Idle s o c' t x ⊎ During s o NoMemory c' b' n' t x
+  carried_or : Idle s o c t x ⊎ During orders s o NoMemory c b n t x → Idle s o c' t x ⊎ During orders s o NoMemory c' b' n' t x
   carried_or (inl i) = inl (carried_idle i)
   carried_or (inr d) = inr (carried_during NoMemory d)
 
@@ -288,7 +281,7 @@ module _ (s : Input) (o : Output) (c c' : Tellings) (t : Input) (x : Output) (le
   carried_full (inl p) = inl (along_less (λ a b. IsFresh a → ⊥) c.old_before c.old_after c'.old_before c'.old_after less.old_before less.old_after p)
   carried_full (inr p) = inr (along_less (λ a b. IsFresh a → ⊥) c.new_before c.new_after c'.new_before c'.new_after less.new_before less.new_after p)
 
-  carried : (ending : Ending) → RunEnds s o ending c b n t x → RunEnds s o ending c' b' n' t x
+  carried : (ending : Ending) → RunEnds orders s o ending c b n t x → RunEnds orders s o ending c' b' n' t x
   carried Served e = carried_during Served e
   carried BadWords e = (
     e.0,

@@ -14,7 +14,7 @@ use Rattle.mt_front.specs.declared.connection.ConnFault.{ConnFault}
 use Rattle.mt_front.specs.declared.connection.ConnFault.TheVariants as conn
 use Rattle.mt_top.specs.declared.running.Ending.{Ending}
 use Rattle.mt_top.specs.declared.running.Ending.TheVariants.{Served, ReadFault, WriteFault, StoreFault, Occupied, Unsupported, NoMemory}
-use Rattle.mt_top.specs.Run.{is_bad_words, Tellings, RunEnds, HandedBack, depot_tellings}
+use Rattle.mt_top.specs.Run.{is_bad_words, Tellings, RunEnds, HandedBack, depot_tellings, orders}
 
 -- how the end of a session ends the run
 abbrev pub ending_at : End → Ending
@@ -47,10 +47,10 @@ pub record Over (s : Input) (o : Output) (k l : Store) (ending : Ending) (t : In
   pub number : k'.number ≡ k.number
   pub number_new : l'.number ≡ l.number
   pub spoken : is_bad_words ending ≡ false
-  pub ends : RunEnds s o ending (tellings_of k k' l l') (k.faults + l.faults) (k'.faults + l'.faults) t x
+  pub ends : RunEnds orders s o ending (tellings_of k k' l l') (k.faults + l.faults) (k'.faults + l'.faults) t x
 
 -- a run over the stores 0 and 1 of a depot
 pub record OverDepot (s : Input) (o : Output) (d : Shelf) (ending : Ending) (t : Input) (x : Output) (d' : Shelf) : Type 0 where
   pub spoken : is_bad_words ending ≡ false
-  pub ends : RunEnds s o ending (depot_tellings d d') d.faults d'.faults t x
+  pub ends : RunEnds orders s o ending (depot_tellings d d') d.faults d'.faults t x
   pub back : HandedBack d d'

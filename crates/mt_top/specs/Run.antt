@@ -1,21 +1,19 @@
 -- A run of the program: the words, the stores of the depot, and a session over the world that they are opened as.
 use Rattle.std.specs.Prelude.{◌≡◌, ◌≢◌, ◌⊎◌, ℕ, ◌+◌, ◌-◌, ◌^◌, ◌≤◌, Bool, true, false, not, All, bytes_eq, is_some, string_bytes, String, List, [], ◌∷◌, ◌++◌, codes, Option, IfSome}
 use Rattle.mt_io.specs.Ends.{Input, Output, Rose, before_known}
+use Rattle.mt_model.specs.declared.entity.Entity.{Entity}
 use Rattle.mt_chain.specs.StoreCall.{Contents}
 use Rattle.mt_chain.specs.Store.{Same}
 use Rattle.mt_chain.specs.Shelf.{Shelf}
-use Rattle.mt_chain.specs.Table.{empty_table, IsSameTable}
-use Rattle.mt_history.specs.declared.entry.Entry.{Entry}
-use Rattle.mt_history.specs.Window.{Window, replay}
-use Rattle.mt_history.specs.Legal.{IsLegal}
-use Rattle.mt_meta.specs.Logical.{Pair}
-use Rattle.mt_meta.specs.Sound.{IsSound}
-use Rattle.mt_meta.specs.Steps.{logical_table}
+use Rattle.mt_meta.specs.Logical.{pair_of}
+use Rattle.mt_world.specs.Worlds.{WorldState, IsReplayed}
 use Rattle.mt_world.specs.Opening.{IsFresh}
 use Rattle.mt_plain.specs.Left.{Broke, IsUnsupported}
 use Rattle.mt_front.specs.Refusals.{unsupported_reply}
-use Rattle.mt_front.specs.Answers.{Exchange, AreExchanges, bytes_of, written_of, Past, FitsFrom, faults_of}
-use Rattle.mt_front.specs.Session.{Sent, Cut}
+use Rattle.mt_front.specs.Items.{Item, faults_of}
+use Rattle.mt_front.specs.Answers.{FitsConnection}
+use Rattle.mt_front.specs.Spells.{SpellsAll}
+use Rattle.mt_front.specs.Session.{Sent, Cut, past_of}
 use Rattle.mt_top.specs.declared.running.Ending.{Ending}
 use Rattle.mt_top.specs.declared.running.Ending.TheVariants.{Served, BadWords, ReadFault, WriteFault, StoreFault, Occupied, Unsupported, NoMemory}
 
@@ -27,12 +25,17 @@ is_session words = false
 abbrev pub usage : List ℕ
 usage = codes "usage: mtable session|drill|serve [options]\n"
 
--- the table, and how many entries its history may have
-abbrev pub table_name : List ℕ
-table_name = codes "Orders"
+-- what is served: a table of that name, which had these rows at the start, over stores of these numbers, with a history of at most so many entries
+pub record Service : Type 0 where
+  pub table : List ℕ
+  pub base : List Entity
+  pub old_number : ℕ
+  pub new_number : ℕ
+  pub limit : ℕ
 
-abbrev pub history_limit : ℕ
-history_limit = 1048576
+-- `Orders` without rows, over the stores 0 and 1
+abbrev pub orders : Service
+orders = record { table = codes "Orders"; base = []; old_number = 0; new_number = 1; limit = 1048576 }
 
 -- the status of each ending
 abbrev pub code_of : Ending → ℕ
@@ -84,61 +87,58 @@ pub record AllTell (c : Tellings) : Type 0 where
   pub new_before : is_some c.new_before ≡ true
   pub new_after : is_some c.new_after ≡ true
 
--- a history from the empty table on
-abbrev pub window : List Entry → Window
-window entries = record { first = 0; base = empty_table; entries = entries }
+-- a world of what is served, with its history from the start on
+pub record IsWorldOf (v : Service) (w : WorldState) : Type 0 where
+  pub base : w.base ≡ v.base
+  pub limit : w.history.limit ≡ v.limit
+  pub first : w.history.first ≡ 0
 
-abbrev pub past : List Entry → Past
-past entries = record { base = empty_table; limit = history_limit; entries = entries }
-
--- the two stores are a sound pair, and what clients see of them is what the history, which is legal, makes of the empty table
-pub record IsReplay (entries : List Entry) (p : Pair) : Type 0 where
-  pub sound : IsSound p
-  pub legal : IsLegal (window entries)
-  pub table : IsSameTable (logical_table p) (replay empty_table entries)
-
-abbrev pub pair_of : Contents → Contents → Pair
-pair_of old new = record { old_number = 0; new_number = 1; old = old; new = new }
+-- the two stores hold what the world's history made of the table at the start: the pair is sound, the history legal, and what clients see is its replay
+abbrev pub IsReplay : Service → WorldState → Contents → Contents → Type 0
+IsReplay v w old new = IsReplayed w (pair_of v.old_number v.new_number old new)
 
 -- what was written, and what is left of the input, by the ending
-abbrev pub Wrote : Input → Output → Ending → List Exchange → Option (List ℕ) → Input → Output → Type 0
-Wrote s o Served es left t x = IfSome left (λ all. all ≡ []) × IfSome t.left (λ all. all ≡ []) × Sent o (written_of es) x
-Wrote s o BadWords es left t x = ⊥
-Wrote s o ReadFault es left t x = Broke table_name left s t × Sent o (written_of es) x
-Wrote s o WriteFault es left t x = Cut o (written_of es) x ⊎ (IsUnsupported table_name left × Cut o (written_of es ++ unsupported_reply) x)
-Wrote s o StoreFault es left t x = ⊥
-Wrote s o Occupied es left t x = ⊥
-Wrote s o Unsupported es left t x = IsUnsupported table_name left × Sent o (written_of es ++ unsupported_reply) x
-Wrote s o NoMemory es left t x = Sent o (written_of es) x
+abbrev pub Wrote : Service → Input → Output → Ending → List ℕ → Option (List ℕ) → Input → Output → Type 0
+Wrote v s o Served written left t x = IfSome left (λ all. all ≡ []) × IfSome t.left (λ all. all ≡ []) × Sent o written x
+Wrote v s o BadWords written left t x = ⊥
+Wrote v s o ReadFault written left t x = Broke v.table left s t × Sent o written x
+Wrote v s o WriteFault written left t x = Cut o written x ⊎ (IsUnsupported v.table left × Cut o (written ++ unsupported_reply) x)
+Wrote v s o StoreFault written left t x = ⊥
+Wrote v s o Occupied written left t x = ⊥
+Wrote v s o Unsupported written left t x = IsUnsupported v.table left × Sent o (written ++ unsupported_reply) x
+Wrote v s o NoMemory written left t x = Sent o written x
 
 -- replies that a store failed are no more than the rise of the depot's count; a count at its end says nothing more
-abbrev pub AreCaused : ℕ → List Exchange → ℕ → Type 0
-AreCaused before es now = (before + faults_of es ≤ now) ⊎ (2 ^ 64 - 1 ≤ now)
+abbrev pub FaultsRose : ℕ → List Item → ℕ → Type 0
+FaultsRose before items now = (before + faults_of items ≤ now) ⊎ (2 ^ 64 - 1 ≤ now)
 
--- both stores were found without a row and not sealed; the requests are the bytes, in order, up to what is left; there is a history of them, to which their replies fit, and of nothing else; and the stores hold what it made of the empty table
-pub record During (s : Input) (o : Output) (ending : Ending) (c : Tellings) (before now : ℕ) (t : Input) (x : Output) : Type 0 where
-  pub exchanges : List Exchange
+-- both stores were found without a row and not sealed; the requests are the bytes, in order, up to what is left; there is a world whose history they fit, which has nothing else; and the stores hold what it made of the table
+pub record During (v : Service) (s : Input) (o : Output) (ending : Ending) (c : Tellings) (before now : ℕ) (t : Input) (x : Output) : Type 0 where
+  pub items : List Item
+  pub read : List ℕ
+  pub written : List ℕ
   pub left : Option (List ℕ)
-  pub entries : List Entry
-  pub are : AreExchanges table_name exchanges
-  pub read : s.left ≡ before_known (bytes_of exchanges) left
-  pub own : All (λ e. e.caller ≡ 0) entries
-  pub fits : FitsFrom 0 (AllTell c) (past entries) 0 exchanges
+  pub world : WorldState
+  pub world_is : IsWorldOf v world
+  pub spelled : SpellsAll v.table items read written
+  pub read_is : s.left ≡ before_known read left
+  pub answered : FitsConnection 0 (AllTell c) (past_of world) 0 items []
+  pub own : All (λ e. e.caller ≡ 0) world.history.entries
   pub fresh : Along (λ a b. IsFresh a) c.old_before c.old_after × Along (λ a b. IsFresh a) c.new_before c.new_after
-  pub replayed : IfSome c.old_before (λ a. IfSome c.new_before (λ a'. IfSome c.old_after (λ b. IfSome c.new_after (λ b'. IsReplay entries (pair_of b b')))))
-  pub caused : AreCaused before exchanges now
-  pub wrote : Wrote s o ending exchanges left t x
+  pub replayed : IfSome c.old_before (λ a. IfSome c.new_before (λ a'. IfSome c.old_after (λ b. IfSome c.new_after (λ b'. IsReplay v world b b'))))
+  pub caused : FaultsRose before items now
+  pub wrote : Wrote v s o ending written left t x
 
 -- what each ending says; a store fails the run only while it is opened
-abbrev pub RunEnds : Input → Output → Ending → Tellings → ℕ → ℕ → Input → Output → Type 0
-RunEnds s o Served c before now t x = During s o Served c before now t x
-RunEnds s o BadWords c before now t x = (t ≡ s) × (Sent o usage x ⊎ Cut o usage x) × Along Same c.old_before c.old_after × Along Same c.new_before c.new_after
-RunEnds s o ReadFault c before now t x = During s o ReadFault c before now t x
-RunEnds s o WriteFault c before now t x = During s o WriteFault c before now t x
-RunEnds s o StoreFault c before now t x = Idle s o c t x × Rose before now
-RunEnds s o Occupied c before now t x = Idle s o c t x × (NotFresh c.old_before c.old_after ⊎ NotFresh c.new_before c.new_after)
-RunEnds s o Unsupported c before now t x = During s o Unsupported c before now t x
-RunEnds s o NoMemory c before now t x = Idle s o c t x ⊎ During s o NoMemory c before now t x
+abbrev pub RunEnds : Service → Input → Output → Ending → Tellings → ℕ → ℕ → Input → Output → Type 0
+RunEnds v s o Served c before now t x = During v s o Served c before now t x
+RunEnds v s o BadWords c before now t x = (t ≡ s) × (Sent o usage x ⊎ Cut o usage x) × Along Same c.old_before c.old_after × Along Same c.new_before c.new_after
+RunEnds v s o ReadFault c before now t x = During v s o ReadFault c before now t x
+RunEnds v s o WriteFault c before now t x = During v s o WriteFault c before now t x
+RunEnds v s o StoreFault c before now t x = Idle s o c t x × Rose before now
+RunEnds v s o Occupied c before now t x = Idle s o c t x × (NotFresh c.old_before c.old_after ⊎ NotFresh c.new_before c.new_after)
+RunEnds v s o Unsupported c before now t x = During v s o Unsupported c before now t x
+RunEnds v s o NoMemory c before now t x = Idle s o c t x ⊎ During v s o NoMemory c before now t x
 
 -- ---- over a depot
 
@@ -156,5 +156,5 @@ pub record Runs {A : Type 0} (words : List (String A)) (s : Input) (o : Output) 
   pub ending : Ending
   pub status_is : status ≡ code_of ending
   pub words_are : is_session words ≡ not (is_bad_words ending)
-  pub ends : RunEnds s o ending (depot_tellings d d') d.faults d'.faults t x
+  pub ends : RunEnds orders s o ending (depot_tellings d d') d.faults d'.faults t x
   pub back : HandedBack d d'

@@ -1,5 +1,5 @@
 ghost use Rattle.std.specs.Prelude.{◌≡◌, ℕ, false, true};
-ghost use Rattle.mt_top.specs.Run.{is_session, table_name, code_of, Runs};
+ghost use Rattle.mt_top.specs.Run.{is_session, orders, code_of, Runs};
 ghost use Rattle.mt_top.specs.Endings.{ending_at, ending_of, depot_ending, opening_ending, Over, OverDepot};
 
 use mt_chain::{Depot, DepotFault, Keeper};
@@ -129,7 +129,7 @@ fn over_stores<K: Keeper, S: Source, T: Sink>(
     source: &mut S,
     sink: &mut T,
 ) -> (Ending, Stores<K>)
-    requires table { table.now ≡ table_name }
+    requires table { table.now ≡ orders.table }
     requires old { (K.state old).number ≡ 0 }
     requires new { (K.state new).number ≡ 1 }
     ensures { Over (S.input source.old) (T.output sink.old) (K.state old) (K.state new) result.0

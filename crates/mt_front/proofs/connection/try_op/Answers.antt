@@ -1,43 +1,49 @@
-use Rattle.std.proofs.Common.{refl}
+use Rattle.std.proofs.Common.{false, true, ◌≡◌, ◌∷◌, [], Ok, Err, refl, ap}
 use Rattle.mt_world.specs.declared.actor.Answer.TheVariants.{Written, Refused}
 use Rattle.mt_world.specs.declared.actor.TurnFault.TheVariants.{StoreFault, HistoryFull, NoMemory}
-use Rattle.std.proofs.Common.{Ok, Err}
-use Rattle.mt_front.proofs.CameLaws.{came_done, came_refused, came_fault, came_full, came_to_nothing}
+use Rattle.mt_front.specs.Items.{applied_entry}
+use Rattle.mt_front.specs.declared.connection.Outcome.TheVariants as outcome
+use Rattle.mt_front.proofs.CameLaws.{tried, tried_in_vain}
 use Rattle.mt_front.proofs.CallLaws.{called}
 use Rattle.mt_front.proofs.connection.try_op.Goals as goal
 
 pub only_tag-requires : goal.only_tag-requires
 only_tag-requires g c =
-    let k = called c.args.world.now c.call_of.new.self c.finish.new.self c.args.op c.in_ok-batch.batch c.in_ok-call.call (Ok (Written c.in-Ok-Written.tags)) c.in_ok-call.ensures.same c.in_ok-call.ensures.call c.in_ok-batch.ensures
-    (rw c.in-Ok-Written.field-0-is at c.in-Ok-Written.ensures.ends) (rw c.in-Ok-Written.field-0-is at c.in-Ok-Written.ensures.answers) in
+    let k = called 0 c.args.world.now c.call_of.new.self c.finish.new.self c.args.op c.in_ok-batch.batch c.in_ok-call.call (Ok (Written c.in-Ok-Written.tags)) c.in_ok-call.ensures.same c.in_ok-call.ensures.call c.in_ok-batch.ensures
+    (rw c.in-Ok-Written.field-0-is at c.in-Ok-Written.ensures) in
     k.tags c.in-Ok-Written.tags refl
 
 pub returns-in-Ok-Written : goal.returns-in-Ok-Written
-returns-in-Ok-Written g c = λ echo.
-    let k = called c.args.world.now c.call_of.new.self c.finish.new.self c.args.op c.in_ok-batch.batch c.in_ok-call.call (Ok (Written c.in-Ok-Written.tags)) c.in_ok-call.ensures.same c.in_ok-call.ensures.call c.in_ok-batch.ensures
-    (rw c.in-Ok-Written.field-0-is at c.in-Ok-Written.ensures.ends) (rw c.in-Ok-Written.field-0-is at c.in-Ok-Written.ensures.answers) in
-    came_done c.args.world.now c.finish.new.self c.args.op echo c.in-Ok-Written.tags c.only_tag.result c.only_tag.ensures k.told k.answers
+returns-in-Ok-Written g c =
+    let k = called 0 c.args.world.now c.call_of.new.self c.finish.new.self c.args.op c.in_ok-batch.batch c.in_ok-call.call (Ok (Written c.in-Ok-Written.tags)) c.in_ok-call.ensures.same c.in_ok-call.ensures.call c.in_ok-batch.ensures
+    (rw c.in-Ok-Written.field-0-is at c.in-Ok-Written.ensures) in (
+      k.marks,
+      tried 0 c.args.world.now c.finish.new.self c.args.op (outcome.Done c.only_tag.result) k.marks (Ok (Written c.in-Ok-Written.tags)) k.told k.answers
+          (ap (λ tags. applied_entry (c.args.op ∷ []) tags ∷ []) c.only_tag.ensures) refl (λ e. absurd (let h : false ≡ true = e in cc)) (λ e. k.still refl),
+    )
 
 pub returns-in-Ok-Refused : goal.returns-in-Ok-Refused
-returns-in-Ok-Refused g c = λ echo.
-    let k = called c.args.world.now c.call_of.new.self c.finish.new.self c.args.op c.in_ok-batch.batch c.in_ok-call.call (Ok (Refused c.in-Ok-Refused.refusal)) c.in_ok-call.ensures.same c.in_ok-call.ensures.call c.in_ok-batch.ensures
-    (rw c.in-Ok-Refused.field-0-is at c.in-Ok-Refused.ensures.ends) (rw c.in-Ok-Refused.field-0-is at c.in-Ok-Refused.ensures.answers) in
-    came_refused c.args.world.now c.finish.new.self c.args.op echo c.in-Ok-Refused.refusal k.told k.answers
+returns-in-Ok-Refused g c =
+    let k = called 0 c.args.world.now c.call_of.new.self c.finish.new.self c.args.op c.in_ok-batch.batch c.in_ok-call.call (Ok (Refused c.in-Ok-Refused.refusal)) c.in_ok-call.ensures.same c.in_ok-call.ensures.call c.in_ok-batch.ensures
+    (rw c.in-Ok-Refused.field-0-is at c.in-Ok-Refused.ensures) in (
+      k.marks,
+      tried 0 c.args.world.now c.finish.new.self c.args.op (outcome.Refused c.in-Ok-Refused.refusal) k.marks (Ok (Refused c.in-Ok-Refused.refusal)) k.told k.answers refl refl (λ e. absurd (let h : false ≡ true = e in cc)) (λ e. k.still refl),
+    )
 
 pub returns-in-Err-StoreFault : goal.returns-in-Err-StoreFault
-returns-in-Err-StoreFault g c = λ echo.
-    let k = called c.args.world.now c.call_of.new.self c.finish.new.self c.args.op c.in_ok-batch.batch c.in_ok-call.call (Err StoreFault) c.in_ok-call.ensures.same c.in_ok-call.ensures.call c.in_ok-batch.ensures
-    (rw c.in-Err-StoreFault.field-0-is at c.in-Err-StoreFault.ensures.ends) (rw c.in-Err-StoreFault.field-0-is at c.in-Err-StoreFault.ensures.answers) in
-    came_fault c.args.world.now c.finish.new.self c.args.op echo k.told k.answers
+returns-in-Err-StoreFault g c =
+    let k = called 0 c.args.world.now c.call_of.new.self c.finish.new.self c.args.op c.in_ok-batch.batch c.in_ok-call.call (Err StoreFault) c.in_ok-call.ensures.same c.in_ok-call.ensures.call c.in_ok-batch.ensures
+    (rw c.in-Err-StoreFault.field-0-is at c.in-Err-StoreFault.ensures) in
+    (k.marks, tried 0 c.args.world.now c.finish.new.self c.args.op outcome.Fault k.marks (Err StoreFault) k.told k.answers refl refl (λ e. refl) (λ e. absurd (let h : true ≡ false = e in cc)))
 
 pub returns-in-Err-HistoryFull : goal.returns-in-Err-HistoryFull
-returns-in-Err-HistoryFull g c = λ echo.
-    let k = called c.args.world.now c.call_of.new.self c.finish.new.self c.args.op c.in_ok-batch.batch c.in_ok-call.call (Err HistoryFull) c.in_ok-call.ensures.same c.in_ok-call.ensures.call c.in_ok-batch.ensures
-    (rw c.in-Err-HistoryFull.field-0-is at c.in-Err-HistoryFull.ensures.ends) (rw c.in-Err-HistoryFull.field-0-is at c.in-Err-HistoryFull.ensures.answers) in
-    came_full c.args.world.now c.finish.new.self c.args.op echo k.told k.answers
+returns-in-Err-HistoryFull g c =
+    let k = called 0 c.args.world.now c.call_of.new.self c.finish.new.self c.args.op c.in_ok-batch.batch c.in_ok-call.call (Err HistoryFull) c.in_ok-call.ensures.same c.in_ok-call.ensures.call c.in_ok-batch.ensures
+    (rw c.in-Err-HistoryFull.field-0-is at c.in-Err-HistoryFull.ensures) in
+    (k.marks, tried 0 c.args.world.now c.finish.new.self c.args.op outcome.Full k.marks (Err HistoryFull) k.told k.answers refl refl (λ e. absurd (let h : false ≡ true = e in cc)) (λ e. k.still refl))
 
 pub returns-in-Err-NoMemory : goal.returns-in-Err-NoMemory
 returns-in-Err-NoMemory g c =
-    let k = called c.args.world.now c.call_of.new.self c.finish.new.self c.args.op c.in_ok-batch.batch c.in_ok-call.call (Err NoMemory) c.in_ok-call.ensures.same c.in_ok-call.ensures.call c.in_ok-batch.ensures
-    (rw c.in-Err-NoMemory.field-0-is at c.in-Err-NoMemory.ensures.ends) (rw c.in-Err-NoMemory.field-0-is at c.in-Err-NoMemory.ensures.answers) in
-    came_to_nothing c.args.world.now c.finish.new.self c.args.op k.told k.answers
+    let k = called 0 c.args.world.now c.call_of.new.self c.finish.new.self c.args.op c.in_ok-batch.batch c.in_ok-call.call (Err NoMemory) c.in_ok-call.ensures.same c.in_ok-call.ensures.call c.in_ok-batch.ensures
+    (rw c.in-Err-NoMemory.field-0-is at c.in-Err-NoMemory.ensures) in
+    tried_in_vain 0 c.args.world.now c.finish.new.self c.args.op k.marks k.told k.answers (k.still refl)

@@ -4,7 +4,7 @@ use Rattle.mt_top.proofs.running.over_stores.Goals as goal
 pub returns-in-Ok : goal.returns-in-Ok
 returns-in-Ok g c =
     over_served (g.S.Source.input c.args.source.now) (g.T.Sink.output c.args.sink.now) (g.K.Keeper.state c.args.old) (g.K.Keeper.state c.args.new) c.in-Ok.world c.session-served.result c.session-served.new.world
-    (g.S.Source.input c.session-served.new.source) (g.T.Sink.output c.session-served.new.sink) c.args.table.now c.ending_of.result (g.K.Keeper.state c.into_stores.result.old) (g.K.Keeper.state c.into_stores.result.new)
+    (g.S.Source.input c.session-served.new.source) (g.T.Sink.output c.session-served.new.sink) c.requires.old c.requires.new c.into_stores.ensures.world c.args.table.now c.ending_of.result (g.K.Keeper.state c.into_stores.result.old) (g.K.Keeper.state c.into_stores.result.new)
     c.requires.table c.ending_of.ensures c.into_stores.ensures.old c.into_stores.ensures.new c.in-Ok.ensures.opened c.session-served.ensures
 
 pub returns-in-Err : goal.returns-in-Err

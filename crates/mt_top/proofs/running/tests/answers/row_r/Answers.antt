@@ -2,7 +2,7 @@ use Rattle.std.proofs.Common.{◌≡◌, ◌++◌, ◌∷◌, [], ℕ, List, len
 use Rattle.std.specs.List.Sorted.{IsStrictlySortedBy}
 use Rattle.std.specs.Ordering.{nat_cmp}
 use Rattle.std.specs.Cmp.Lexicographic.{slice_cmp}
-use Rattle.mt_top.proofs.running.tests.row_r.Goals as goal
+use Rattle.mt_top.proofs.running.tests.answers.row_r.Goals as goal
 
 one_rising : (name : List ℕ) → IsStrictlySortedBy (slice_cmp nat_cmp) (name ∷ [])
 unfolding IsStrictlySortedBy

@@ -1,7 +1,7 @@
 use Rattle.mt_plain.specs.Left.{ahead}
 use Rattle.mt_front.proofs.TalkLaws.{On}
-use Rattle.mt_front.proofs.connection.take_turns.Given as goal
+use Rattle.mt_front.proofs.connection.session.Given as goal
 
 abbrev pub invariant-requests : goal.invariant-requests
-invariant-requests g l = On l.fn.table (g.S.Source.input l.fn.source) (g.T.Sink.output l.fn.sink) l.fn.world l.requests
+invariant-requests g l = On 0 l.fn.table (g.S.Source.input l.fn.source) (g.T.Sink.output l.fn.sink) l.fn.world l.requests
     (ahead l.reader (g.S.Source.input l.source)) (g.S.Source.input l.source) (g.T.Sink.output l.sink) l.world

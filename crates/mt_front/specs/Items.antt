@@ -1,0 +1,88 @@
+-- The items of a connection: what each asks, how it came out, and the reply that shows what its entries in the history reply.
+use Rattle.std.specs.Prelude.{◌≡◌, ℕ, Bool, true, false, List, [], ◌∷◌, length, filter, Option, Some, None}
+use Rattle.std.specs.List.{flat_map}
+use Rattle.std.specs.Option.{option_to_list}
+use Rattle.mt_model.specs.declared.tag.Tag.{Tag}
+use Rattle.mt_chain.specs.declared.op.Op.{Op}
+use Rattle.mt_chain.specs.declared.op.Refusal.{Refusal}
+use Rattle.mt_chain.specs.Batch.{batch_weight}
+use Rattle.mt_history.specs.declared.entry.What.TheVariants as what
+use Rattle.mt_history.specs.declared.model.Reply.TheVariants as reply
+use Rattle.mt_front.specs.declared.refusals.BadRequest.{BadRequest}
+use Rattle.mt_front.specs.declared.asks.Asked.{Asked}
+use Rattle.mt_front.specs.declared.asks.Asked.TheVariants as asked
+use Rattle.mt_front.specs.Refusals.{bad_reply, cause_reply, fault_reply, full_reply}
+use Rattle.mt_front.specs.Replies.{IsDoneReply}
+use Rattle.mt_world.specs.Moves.{NewEntry, fault_entry}
+use Rattle.mt_world.specs.WholeCalls.{Mark}
+
+-- how an item came out: refused before anything was tried; done, with the tag of its row; refused by the table; a store failed; the history is full
+pub data ItemOutcome : Type 0 where
+  Bad : BadRequest → ItemOutcome
+  Done : Tag → ItemOutcome
+  Refused : Refusal → ItemOutcome
+  Fault : ItemOutcome
+  Full : ItemOutcome
+
+-- what is asked, how it came out, the bytes of the reply, and a mark for each turn: where it found the history's end, and what it left there
+pub record Item : Type 0 where
+  pub asks : Asked
+  pub outcome : ItemOutcome
+  pub reply : List ℕ
+  pub marks : List Mark
+
+-- it was answered that the history is full
+abbrev pub is_full : ItemOutcome → Bool
+is_full (Bad r) = false
+is_full (Done tag) = false
+is_full (Refused refusal) = false
+is_full Fault = false
+is_full Full = true
+
+-- it was answered that a store failed
+abbrev pub is_fault : ItemOutcome → Bool
+is_fault (Bad r) = false
+is_fault (Done tag) = false
+is_fault (Refused refusal) = false
+is_fault Fault = true
+is_fault Full = false
+
+-- how many items were answered that a store failed
+abbrev pub faults_of : List Item → ℕ
+faults_of items = length (filter (λ i. is_fault i.outcome) items)
+
+-- the room in the history that each turn of what is asked needs; what is refused takes no turn
+abbrev pub need_of : Asked → Option ℕ
+need_of (asked.Write op echo) = Some (batch_weight (op ∷ []))
+need_of (asked.Refused r) = None
+
+-- ---- replies
+
+-- the entry that a batch leaves which was applied
+abbrev pub applied_entry : List Op → List Tag → NewEntry
+applied_entry batch tags = record { what = what.Batch batch tags; reply = reply.Written tags }
+
+-- the entry that a batch leaves which the table refused
+abbrev pub refused_entry : List Op → Refusal → NewEntry
+refused_entry batch refusal = record { what = what.Refused batch; reply = reply.Refused refusal }
+
+-- the entries that turns left
+abbrev pub entries_of : List Mark → List NewEntry
+entries_of marks = flat_map (λ m. option_to_list m.entry) marks
+
+-- what is asked came out so, with these marks; and the bytes are the reply, which shows what their entries reply
+abbrev pub Renders : Asked → ItemOutcome → List Mark → List ℕ → Type 0
+Renders (asked.Write op echo) (Bad r) marks bytes = ⊥
+Renders (asked.Write op echo) (Done tag) marks bytes = (entries_of marks ≡ applied_entry (op ∷ []) (tag ∷ []) ∷ []) × IsDoneReply echo op tag bytes
+Renders (asked.Write op echo) (Refused refusal) marks bytes = (entries_of marks ≡ refused_entry (op ∷ []) refusal ∷ []) × (bytes ≡ cause_reply refusal.cause)
+Renders (asked.Write op echo) Fault marks bytes = (entries_of marks ≡ fault_entry ∷ []) × (bytes ≡ fault_reply)
+Renders (asked.Write op echo) Full marks bytes = (entries_of marks ≡ []) × (bytes ≡ full_reply)
+Renders (asked.Refused r) (Bad q) marks bytes = (q ≡ r) × (marks ≡ []) × (bytes ≡ bad_reply r)
+Renders (asked.Refused r) (Done tag) marks bytes = ⊥
+Renders (asked.Refused r) (Refused refusal) marks bytes = ⊥
+Renders (asked.Refused r) Fault marks bytes = ⊥
+Renders (asked.Refused r) Full marks bytes = ⊥
+
+-- the item's reply is that to what it asks
+abbrev pub IsRendered : Item → Type 0
+IsRendered i = Renders i.asks i.outcome i.marks i.reply
