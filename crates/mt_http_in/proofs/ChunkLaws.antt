@@ -15,7 +15,7 @@ use Rattle.mt_http_in.specs.Fields.{body_limit}
 use Rattle.mt_http_in.specs.Reading.{Spent, Reads}
 use Rattle.mt_http_in.specs.Filling.{Reached}
 use Rattle.mt_http_in.specs.Chunks.{SpellsBytes, IsShort, CutOff, SpellsEnd, NoEnd, SpellsLine, IsLineBegun, HasNoLine, NoLine, SpellsContent, IsContentBegun, HasNoContent, ContentRefused, Chunk, IsChunk, AllChunks, print_chunk, print_chunks, content_of, SpellsChunks, AreChunksBegun, AreChunksRefused, IsPairOfBytes, IsLineBytes, Between}
-use Rattle.mt_http_in.proofs.FillLaws.{front, later_then, reached_spent, known_now, ended_now, spent_none, spent_then, stops, stops_then}
+use Rattle.mt_http_in.proofs.FillLaws.{front, later_then, reached_spent, known_now, ended_now, spent_then, stops_then}
 
 -- ---- line ends
 
@@ -69,11 +69,6 @@ no_content n content xs size none other rest size' e =
     sym (drop-append_seam content xs) ∙ ap (drop (length content)) e ∙ ap (λ k. drop k (other ++ (crlf_bytes ++ rest))) (size ∙ sym size') ∙ drop-append_seam other (crlf_bytes ++ rest) in
     none rest others
 
-cut_content : (n : ℕ) (all : List ℕ) → length all < n → HasNoContent n all
-cut_content n all short content rest size e =
-    let whole : length all ≡ length content + length (crlf_bytes ++ rest) = ap length e ∙ length-append content (crlf_bytes ++ rest) in
-    absurd (omega (arith, short, size, whole))
-
 module _ (body : List ℕ) (n : ℕ) (fits : length body + n ≤ body_limit) where
   pub content_whole : (a : List ℕ) (s : Input) (b : List ℕ) (t : Input) (c : List ℕ) (u : Input) (body' : List ℕ) → Reads {V = List ℕ} (SpellsBytes body n) (IsShort n) (CutOff n) a s (Ok body') b t
       → Reads SpellsEnd (IsShort 2) NoEnd b t (Ok tt) c u → Reads {V = List ℕ} (SpellsContent body n) (IsContentBegun body n) (ContentRefused body n) a s (Ok body') c u
@@ -86,15 +81,6 @@ module _ (body : List ℕ) (n : ℕ) (fits : length body + n ≤ body_limit) whe
     );
   }
 
-  cut_is : (code : Code) (xs : List ℕ) → CutOff n code xs → ContentRefused body n code xs
-  cut_is code xs cut = subst (λ k. ContentRefused body n k xs) (sym cut.0) (fits, cut_content n xs cut.1)
-
-  pub content_stops : (a : List ℕ) (s : Input) (halt : Halt) (b : List ℕ) (t : Input) → Reads {V = List ℕ} (SpellsBytes body n) (IsShort n) (CutOff n) a s (Err halt) b t
-      → Reads {V = List ℕ} (SpellsContent body n) (IsContentBegun body n) (ContentRefused body n) a s (Err halt) b t
-  content_stops a s halt b t x =
-      stops {V = List ℕ} {W = List ℕ} (SpellsBytes body n) (IsShort n) (CutOff n) (SpellsContent body n) (IsContentBegun body n) (ContentRefused body n) a s halt b t
-      (λ q short. record { short = omega (arith, short); fits = fits }) cut_is x
-
   pub content_ends : (a : List ℕ) (s : Input) (b : List ℕ) (t : Input) (halt : Halt) (c : List ℕ) (u : Input) (body' : List ℕ) → Reads {V = List ℕ} (SpellsBytes body n) (IsShort n) (CutOff n) a s (Ok body') b t
       → Reads SpellsEnd (IsShort 2) NoEnd b t (Err halt) c u → Reads {V = List ℕ} (SpellsContent body n) (IsContentBegun body n) (ContentRefused body n) a s (Err halt) c u
   content_ends a s b t halt c u body' x y =
@@ -103,9 +89,6 @@ module _ (body : List ℕ) (n : ℕ) (fits : length body + n ≤ body_limit) whe
       (λ code xs none. subst (λ k. ContentRefused body n k (x.read.0 ++ xs)) (sym none.0) (fits, no_content n x.read.0 xs x.read.1.0 none.1)) y
 
 -- ---- chunks
-
-pub between_none : (kept : List ℕ) (s : Input) → Between kept s [] kept s
-between_none kept s = record { later = record { number = refl; calls = omega arith; faults = omega arith }; chunks = []; all = tt; content = refl; small = omega arith; spent = spent_none kept s }
 
 printed_more : (cs : List Chunk) (c : Chunk) → print_chunks (cs ++ c ∷ []) ≡ print_chunks cs ++ print_chunk c
 printed_more [] c = append-nil (print_chunk c)

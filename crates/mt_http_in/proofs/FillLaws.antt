@@ -1,5 +1,5 @@
 -- Steps of filling and spending, one after another.
-use Rattle.std.proofs.Common.{◌≡◌, ◌≢◌, ℕ, ◌+◌, ◌-◌, ◌<◌, ◌≤◌, ◌^◌, List, [], ◌∷◌, ◌++◌, length, take, drop, Option, Some, None, Ok, Err, refl, sym, ap, ◌∙◌, arith, append_assoc, append-nil, length-append, subst}
+use Rattle.std.proofs.Common.{◌≡◌, ◌≢◌, ℕ, ◌+◌, ◌-◌, ◌≤◌, List, [], ◌++◌, length, take, drop, Option, Some, None, Ok, Err, refl, sym, ap, ◌∙◌, arith, append_assoc, append-nil, length-append, subst}
 use Rattle.std.specs.Prelude.{IfSome}
 use Rattle.std.proofs.lemmas.List.{take-append-le, take-append-drop}
 use Rattle.std.proofs.Math.Seq.{take-append_seam}
@@ -8,7 +8,7 @@ use Rattle.mt_io.proofs.Pieces.{before_before, before_nothing, if_before, told, 
 use Rattle.mt_http_in.specs.declared.reader.Halt.{Halt}
 use Rattle.mt_http_in.specs.declared.reader.Halt.TheVariants.{ReadFault, NoMemory, Refused}
 use Rattle.mt_http_in.specs.declared.Code.{Code}
-use Rattle.mt_http_in.specs.Reading.{ahead, Later, Filled, FilledAs, Fills, Spent, Failed, Ended, ReadAs, Reads}
+use Rattle.mt_http_in.specs.Reading.{ahead, Later, Filled, Fills, Spent, Failed, Ended, ReadAs, Reads}
 use Rattle.mt_http_in.specs.Filling.{Reached}
 
 pub later_none : (s : Input) → Later s s
@@ -30,21 +30,6 @@ pub front : (bytes more p rest : List ℕ) → bytes ++ more ≡ p ++ rest → l
 front bytes more p rest e le =
     let t : take (length p) bytes ≡ p = sym (take-append-le (length p) bytes more le) ∙ ap (take (length p)) e ∙ take-append_seam p rest in
     sym (take-append-drop (length p) bytes) ∙ ap (λ v. v ++ drop (length p) bytes) t
-
-none_more : (got : List ℕ) → length got ≡ 0 → got ≡ []
-none_more [] e = refl
-none_more (g ∷ got) e = absurd (omega (arith, e))
-
--- nothing came at the end
-pub filled_none : (kept : List ℕ) (s : Input) (kept' : List ℕ) (t : Input) → Fills kept s (Ok 0) kept' t → kept' ≡ kept
-filled_none kept s kept' t f = let x : Filled kept s 0 kept' t = f.filled in x.grew ∙ ap (λ v. kept ++ v) (none_more x.got x.long) ∙ append-nil kept
-
-pub smaller : (kept : List ℕ) (s : Input) (n : ℕ) (kept' : List ℕ) (t : Input) → Fills kept s (Ok n) kept' t → 2 ^ 32 - t.calls < 2 ^ 32 - s.calls
-smaller kept s n kept' t f =
-    let x : Filled kept s n kept' t = f.filled in
-    let once : t.calls ≡ s.calls + 1 = x.once in
-    let early : t.calls ≤ 2 ^ 32 = x.early in
-    omega (arith, once, early)
 
 not_less : (a b : ℕ) → (b ≤ a → ⊥) → a + 1 ≤ b
 not_less a b small = grind (arith, small)
@@ -106,20 +91,6 @@ module _ (U : List ℕ → Type 0) where
         paid = omega (arith, paid, due);
       }
 
-  pub reached_failed : (kept : List ℕ) (s : Input) (kept' : List ℕ) (t : Input) (kept'' : List ℕ) (u : Input) → Reached U kept s kept' t → Fills kept' t (Err ReadFault) kept'' u → Failed kept s kept' u
-  reached_failed kept s kept' t kept'' u r f =
-      let x : FilledAs kept' t (Err ReadFault) kept'' u = f.filled in
-      let old : length kept' ≡ length kept + length r.more = sizes kept s kept' t r in
-      let paid : t.calls ≤ s.calls + (r.due - length kept) = r.paid in
-      let within : r.due ≤ length kept' = r.within in
-      let once : u.calls ≤ t.calls + 1 = x.2 in
-      record {
-        same = reached_same kept s kept' t r ∙ ap (before_known kept') (sym x.0);
-        within = omega (arith, old);
-        paid = omega (arith, paid, within, once);
-        cause = rose_after s.faults t.faults u.faults r.later.faults x.1;
-      }
-
   pub reached_ended : (kept : List ℕ) (s : Input) (kept' : List ℕ) (t : Input) → Reached U kept s kept' t → (k : ℕ) → k ≤ t.calls + 1 → IfSome s.left (λ xs. k ≤ s.calls + length xs + 1)
   reached_ended kept s kept' t r k le =
       let P : List ℕ → Type 0 = λ xs. k ≤ s.calls + length xs + 1 in
@@ -132,30 +103,11 @@ module _ (U : List ℕ → Type 0) where
   pub ended_now : (kept : List ℕ) (s : Input) (kept' : List ℕ) (t : Input) → Reached U kept s kept' t → Ended s t
   ended_now kept s kept' t r = reached_ended kept s kept' t r t.calls (omega arith)
 
-  -- a refusal after a read that said the end
-  pub ended_last : (kept : List ℕ) (s : Input) (kept' : List ℕ) (t : Input) (n : ℕ) (kept'' : List ℕ) (u : Input) → Reached U kept s kept' t → Fills kept' t (Ok n) kept'' u → Ended s u
-  ended_last kept s kept' t n kept'' u r f =
-      let x : Filled kept' t n kept'' u = f.filled in
-      let once : u.calls ≡ t.calls + 1 = x.once in
-      reached_ended kept s kept' t r u.calls (omega (arith, once))
-
   -- what holds of the bytes that are kept, whatever follows, holds of what is known
   pub known_now : (P : List ℕ → Type 0) (kept : List ℕ) (s : Input) (kept' : List ℕ) (t : Input) → Reached U kept s kept' t → ((more : List ℕ) → P (kept' ++ more)) → IfSome (ahead kept s) P
   known_now P kept s kept' t r all = subst (λ (o : Option (List ℕ)). IfSome o P) (sym (reached_same kept s kept' t r)) (if_before P kept' t.left (told (λ xs. P (kept' ++ xs)) t.left all))
 
-  -- and at the end, what holds of them alone
-  pub known_last : (P : List ℕ → Type 0) (kept : List ℕ) (s : Input) (kept' : List ℕ) (t : Input) (kept'' : List ℕ) (u : Input) → Reached U kept s kept' t → Fills kept' t (Ok 0) kept'' u → P kept' → IfSome (ahead kept s) P
-  known_last P kept s kept' t kept'' u r f p =
-      let x : Filled kept' t 0 kept'' u = f.filled in
-      let none : x.got ≡ [] = none_more x.got x.long in
-      let left : t.left ≡ u.left = x.left ∙ ap (λ (v : List ℕ). before_known v u.left) none ∙ before_nothing u.left in
-      subst (λ (o : Option (List ℕ)). IfSome o P) (sym (reached_same kept s kept' t r ∙ ap (before_known kept') left))
-      (if_before P kept' u.left (map_told (λ xs. xs ≡ []) (λ xs. P (kept' ++ xs)) u.left (λ xs e. subst P (sym (ap (λ v. kept' ++ v) e ∙ append-nil kept')) p) (x.end refl)))
-
 -- ---- one part after another
-
-pub spent_none : (kept : List ℕ) (s : Input) → Spent kept s [] kept s
-spent_none kept s = record { same = sym (before_nothing (ahead kept s)); within = omega arith; paid = omega arith }
 
 pub spent_then : (a : List ℕ) (s : Input) (p b : List ℕ) (t : Input) (q c : List ℕ) (u : Input) → Spent a s p b t → Spent b t q c u → Spent a s (p ++ q) c u
 spent_then a s p b t q c u x y =
@@ -200,18 +152,7 @@ ended_then a s p b t u x z = ended_of a p b s.left t.left s.calls t.calls u.call
 pub known_then : (P Q : List ℕ → Type 0) (a : List ℕ) (s : Input) (p b : List ℕ) (t : Input) → Spent a s p b t → ((xs : List ℕ) → Q xs → P (p ++ xs)) → IfSome (ahead b t) Q → IfSome (ahead a s) P
 known_then P Q a s p b t x f q = subst (λ (o : Option (List ℕ)). IfSome o P) (sym x.same) (if_before P p (ahead b t) (map_told Q (λ xs. P (p ++ xs)) (ahead b t) f q))
 
--- a part of reading stops where one of its own parts does
-pub stops : {V W : Type 0} (Sp : List ℕ → V → Type 0) (Be : List ℕ → Type 0) (Re : Code → List ℕ → Type 0) (Sp' : List ℕ → W → Type 0) (Be' : List ℕ → Type 0) (Re' : Code → List ℕ → Type 0)
-    (a : List ℕ) (s : Input) (halt : Halt) (c : List ℕ) (u : Input)
-    → ((q : List ℕ) → Be q → Be' q) → ((code : Code) (xs : List ℕ) → Re code xs → Re' code xs) → Reads Sp Be Re a s (Err halt) c u → Reads Sp' Be' Re' a s (Err halt) c u
-stops {V} {W} Sp Be Re Sp' Be' Re' a s halt c u begun refused r = record { later = r.later; read = by_halt halt r.read }
-  where
-    by_halt : (h : Halt) → ReadAs Sp Be Re a s (Err h) c u → ReadAs Sp' Be' Re' a s (Err h) c u
-    by_halt ReadFault x = (x.0, begun x.0 x.1, x.2)
-    by_halt NoMemory x = tt
-    by_halt (Refused code) x = (x.0, map_told (Re code) (Re' code) (ahead a s) (λ xs. refused code xs) x.1, x.2)
-
--- and behind bytes that were spent before
+-- a part of reading stops where one of its own parts does, behind bytes that were spent before
 pub stops_then : {V W : Type 0} (Sp : List ℕ → V → Type 0) (Be : List ℕ → Type 0) (Re : Code → List ℕ → Type 0) (Sp' : List ℕ → W → Type 0) (Be' : List ℕ → Type 0) (Re' : Code → List ℕ → Type 0)
     (a : List ℕ) (s : Input) (p b : List ℕ) (t : Input) (halt : Halt) (c : List ℕ) (u : Input) → Later s t → Spent a s p b t
     → ((q : List ℕ) → Be q → Be' (p ++ q)) → ((code : Code) (xs : List ℕ) → Re code xs → Re' code (p ++ xs)) → Reads Sp Be Re b t (Err halt) c u → Reads Sp' Be' Re' a s (Err halt) c u

@@ -8,7 +8,7 @@ use Rattle.mt_http_in.specs.declared.requests.Incoming.{Incoming}
 use Rattle.mt_http_in.specs.declared.heads.Head.{Head}
 use Rattle.mt_http_in.specs.declared.framing.Framing.{Framing}
 use Rattle.mt_http_in.specs.declared.InFault.{InFault}
-use Rattle.mt_http_in.specs.declared.InFault.TheVariants.{NoMemory, Refused}
+use Rattle.mt_http_in.specs.declared.InFault.TheVariants.{Refused}
 use Rattle.mt_http_in.specs.declared.reader.Halt.{Halt}
 use Rattle.mt_http_in.specs.declared.reader.Halt.TheVariants as halt
 use Rattle.mt_http_in.specs.declared.Code.{Code}
@@ -95,9 +95,6 @@ module _ (b : List ℕ) (t : Input) (w : Output) (v : Head) (framing : Framing) 
       said = said_is h holds sends;
       spoken = inr (record { head = h; kept' = b; t = t; is_head = is; spent = spent; spoken = refl });
     }
-
-    pub memory_law : (body : List ℕ) → Body (Ok body) → Continued v b t w (Err NoMemory) c u x
-    memory_law body y = record { later = y.later; later_out = later_of sends; read = λ from s h is holds later spent. starved from s h is holds spent }
 
     closed_of : (code : Code) (from : List ℕ) (s : Input) (h : RequestHead) → IsHead h → HoldsHead v h → Spent from s (print_request h) b t → IfSome (ahead b t) (BodyRefused room framing code) → Ended t u → Closed from s w code true u x
     closed_of code from s h is holds spent refused ended = record {
