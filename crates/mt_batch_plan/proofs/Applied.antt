@@ -26,7 +26,7 @@ use Rattle.mt_batch_plan.specs.Calls.{IsInOrder, AnswersTags}
 use Rattle.mt_batch_plan.specs.BatchSteps.{IsWritten}
 use Rattle.mt_batch_plan.proofs.OnTags.{answered_applied, answered_written, length-answered, answered_alike, all_gone, GetsTag, written_all, given_reordered}
 use Rattle.mt_batch_plan.proofs.PutTags.{Takes, all_given, tags_apart}
-use Rattle.mt_batch_plan.proofs.Writing.{all_sorted, all_unsorted, IsOf, ops_of, row_key_of}
+use Rattle.mt_batch_plan.proofs.OpLaws.{all_sorted, all_unsorted, each_all, IsOf, ops_of, row_key_of}
 
 -- a write of a batch that was done: `table` is what the batch was judged on, and `put` the put of an operation in the store of that number
 pub record Applied (ops : List Op) (table : Table) (store : ℕ) (put : Op → Put) (sorted : List Op) (p : Pair) (n : ℕ) (q : Pair) : Type 0 where
@@ -41,10 +41,6 @@ pub record Applied (ops : List Op) (table : Table) (store : ℕ) (put : Op → P
       → logical_table q (key_at (partition_of ops) rk) ≡ row_after (op_at (zip sorted (tags_of store n (map put sorted))) (key_at (partition_of ops) rk)) (logical_table p (key_at (partition_of ops) rk))
   pub others : (pk rk : List ℕ) → pk ≢ partition_of ops → logical q pk rk ≡ logical p pk rk
   pub given : (tag : Tag) → tag.store ≡ store → n < tag.n → tag.n ≤ all_counter_after n (map put sorted) → IsFresh p q tag
-
-each_all : {X : Type 0} (P Q : X → Type 0) → ((x : X) → P x → Q x) → (xs : List X) → AllByRecursion P xs → AllByRecursion Q xs
-each_all P Q f [] h = tt
-each_all P Q f (x ∷ xs) h = (f x h.0, each_all P Q f xs h.1)
 
 none_named : (ops : List Op) (tags : List Tag) (key : Key) → AllByRecursion (λ op. names key op ≡ false) ops → op_at (zip ops tags) key ≡ None
 none_named [] tags key h = refl

@@ -5,18 +5,18 @@ use Rattle.std.proofs.lemmas.List.Sorted.{length_permutation}
 use Rattle.mt_model.specs.declared.text.NoMemory.{NoMemory}
 use Rattle.mt_model.specs.declared.tag.Tag.{Tag}
 use Rattle.mt_chain.specs.declared.op.Op.{Op}
-use Rattle.mt_chain.specs.declared.row.Put.{Put}
-use Rattle.mt_chain.specs.declared.row.StoredRow.{StoredRow}
 use Rattle.mt_chain.specs.declared.ask.StoreAsk.{StoreAsk}
 use Rattle.mt_chain.specs.declared.ask.StoreReply.{StoreReply}
 use Rattle.mt_chain.specs.declared.ask.StoreReply.TheVariants as reply
 use Rattle.mt_chain.specs.Asks.{FitsAsk}
 use Rattle.mt_chain.specs.Effect.{told_tag, any_tag, op_key}
-use Rattle.mt_chain.specs.Table.{Table, empty_table}
+use Rattle.mt_chain.specs.Table.{Table}
 use Rattle.mt_rules.specs.Batches.{partition_of}
 use Rattle.mt_batch_plan.specs.declared.place.Place.{Place}
-use Rattle.mt_batch_plan.specs.declared.place.Place.TheVariants.{ReadOld, WriteOld, BirthOld}
-use Rattle.mt_batch_plan.specs.Calls.{Call, IsInOrder, Asks, marker_check, marker_birth, put_for, writes_old, table_seen}
+use Rattle.mt_batch_plan.specs.declared.place.Place.TheVariants.{ReadOld, ReadNew, Write}
+use Rattle.mt_batch_plan.specs.declared.basis.Basis.{Basis}
+use Rattle.mt_batch_plan.specs.Bases.{table_on, put_by}
+use Rattle.mt_batch_plan.specs.Calls.{Call, IsInOrder, Asks, writes}
 use Rattle.mt_batch_plan.specs.Plans.{IsOrder, IsPlan, IsPlanned, picked}
 use Rattle.mt_batch_plan.proofs.OrderLaws.{in_order}
 
@@ -24,25 +24,15 @@ on_ok : {A E : Type 0} (P Q : A → Type 0) (r : Result A E) → ((a : A) → P 
 on_ok P Q (Ok a) f h = f a h
 on_ok P Q (Err e) f h = tt
 
-pub asks_rows : (r : Result StoreAsk NoMemory) (ops : List Op) (place : Place) (rows : List StoredRow) (order indexes : List ℕ) (tags : List Tag) (call : Call)
-    → record { batch = ops; place = place } ≡ call → place ≡ WriteOld rows → indexes ≡ order → IsPlanned ops place order tags
-    → IfOk r (λ a. a ≡ writes_old (partition_of ops) (marker_check rows) rows (picked ops indexes)) → IfOk r (Asks call.batch call.place)
-asks_rows r ops place rows order indexes tags call view at order_is plan asked =
-    let planned : IsPlan ops (table_seen rows) order tags = subst (λ p. IsPlanned ops p order tags) at plan in
+pub asks_write : (r : Result StoreAsk NoMemory) (ops : List Op) (place : Place) (basis : Basis) (order indexes : List ℕ) (tags : List Tag) (call : Call)
+    → record { batch = ops; place = place } ≡ call → place ≡ Write basis → indexes ≡ order → IsPlanned ops place order tags
+    → IfOk r (λ a. a ≡ writes (partition_of ops) basis (picked ops indexes)) → IfOk r (Asks call.batch call.place)
+asks_write r ops place basis order indexes tags call view at order_is plan asked =
+    let planned : IsPlan ops (table_on basis) order tags = subst (λ p. IsPlanned ops p order tags) at plan in
     subst (λ (v : Call). IfOk r (Asks v.batch v.place)) view
     (subst (λ p. IfOk r (Asks ops p)) (sym at)
-    (on_ok (λ a. a ≡ writes_old (partition_of ops) (marker_check rows) rows (picked ops indexes)) (Asks ops (WriteOld rows)) r
-    (λ a h. (picked ops order, in_order ops order planned.in_order, h ∙ ap (λ l. writes_old (partition_of ops) (marker_check rows) rows (picked ops l)) order_is)) asked))
-
-pub asks_birth : (r : Result StoreAsk NoMemory) (ops : List Op) (place : Place) (order indexes : List ℕ) (tags : List Tag) (call : Call)
-    → record { batch = ops; place = place } ≡ call → place ≡ BirthOld → indexes ≡ order → IsPlanned ops place order tags
-    → IfOk r (λ a. a ≡ writes_old (partition_of ops) marker_birth [] (picked ops indexes)) → IfOk r (Asks call.batch call.place)
-asks_birth r ops place order indexes tags call view at order_is plan asked =
-    let planned : IsPlan ops empty_table order tags = subst (λ p. IsPlanned ops p order tags) at plan in
-    subst (λ (v : Call). IfOk r (Asks v.batch v.place)) view
-    (subst (λ p. IfOk r (Asks ops p)) (sym at)
-    (on_ok (λ a. a ≡ writes_old (partition_of ops) marker_birth [] (picked ops indexes)) (Asks ops BirthOld) r
-    (λ a h. (picked ops order, in_order ops order planned.in_order, h ∙ ap (λ l. writes_old (partition_of ops) marker_birth [] (picked ops l)) order_is)) asked))
+    (on_ok (λ a. a ≡ writes (partition_of ops) basis (picked ops indexes)) (Asks ops (Write basis)) r
+    (λ a h. (picked ops order, in_order ops order planned.in_order, h ∙ ap (λ l. writes (partition_of ops) basis (picked ops l)) order_is)) asked))
 
 -- ---- the store's tags
 
@@ -53,26 +43,22 @@ pub record IsReady (ops : List Op) (order : List ℕ) (tags given : List Tag) : 
   pub told : length tags ≡ length ops
 
 -- the tags of a write, of which there is one for each put
-counted : (ops sorted : List Op) (pk : List ℕ) (first : Put) (rows : List StoredRow) (given : List Tag) (a : StoreAsk) → IsInOrder ops sorted → a ≡ writes_old pk first rows sorted
+counted : (ops sorted : List Op) (pk : List ℕ) (basis : Basis) (given : List Tag) (a : StoreAsk) → IsInOrder ops sorted → a ≡ writes pk basis sorted
     → FitsAsk a.ask (reply.Applied given) → length given ≡ length ops + 1
-counted ops sorted pk first rows given a h is fits =
-    let count : length given ≡ suc (length (map (put_for rows) sorted)) = subst (λ (x : StoreAsk). FitsAsk x.ask (reply.Applied given)) is fits in
-    omega (arith, count, length-map sorted (put_for rows), length_permutation ops sorted h.all)
+counted ops sorted pk basis given a h is fits =
+    let count : length given ≡ suc (length (map (put_by basis) sorted)) = subst (λ (x : StoreAsk). FitsAsk x.ask (reply.Applied given)) is fits in
+    omega (arith, count, length-map sorted (put_by basis), length_permutation ops sorted h.all)
 
 tags_told : (ops : List Op) (table : Table) (order : List ℕ) (tags : List Tag) → IsPlan ops table order tags → length tags ≡ length ops
 tags_told ops table order tags plan = ap length plan.told ∙ length-map ops (λ op. told_tag op (table (op_key op)) any_tag)
 
 ready_at : (ops : List Op) (place : Place) (order : List ℕ) (tags given : List Tag) → IsPlanned ops place order tags → (a : StoreAsk) → Asks ops place a → FitsAsk a.ask (reply.Applied given) → IsReady ops order tags given
 ready_at ops ReadOld order tags given plan a asked fits = absurd (subst (λ (x : StoreAsk). FitsAsk x.ask (reply.Applied given)) asked.2 fits)
-ready_at ops (WriteOld rows) order tags given plan a asked fits = record {
+ready_at ops (ReadNew after) order tags given plan a asked fits = absurd (subst (λ (x : StoreAsk). FitsAsk x.ask (reply.Applied given)) asked.2 fits)
+ready_at ops (Write basis) order tags given plan a asked fits = record {
   order_is = plan.in_order;
-  count = counted ops asked.0 (partition_of ops) (marker_check rows) rows given a asked.1 asked.2 fits;
-  told = tags_told ops (table_seen rows) order tags plan;
-}
-ready_at ops BirthOld order tags given plan a asked fits = record {
-  order_is = plan.in_order;
-  count = counted ops asked.0 (partition_of ops) marker_birth [] given a asked.1 asked.2 fits;
-  told = tags_told ops empty_table order tags plan;
+  count = counted ops asked.0 (partition_of ops) basis given a asked.1 asked.2 fits;
+  told = tags_told ops (table_on basis) order tags plan;
 }
 
 abbrev pub FitsCall : Call → StoreReply → Type 0

@@ -34,7 +34,7 @@ use Rattle.mt_meta.proofs.ModeLaws.{IsWhole, whole, is_overlaid, filling_ranks, 
 use Rattle.mt_meta.proofs.Growth.{stays_self}
 use Rattle.mt_meta.proofs.StorePuts.{moves_puts, Leaves, touched, IsSeen, seen, no_row, the_row}
 use Rattle.mt_meta.proofs.Parts.{FormsAt, KeptAt, kept_on, new_step}
-use Rattle.mt_batch_plan.specs.NewPuts.{shown_over, marker_birth_new}
+use Rattle.mt_batch_plan.specs.Bases.{shown_over, marker_birth_new}
 
 -- what a client leaves as an entry: a live row, and while new fills also a tombstone
 abbrev pub IsLeft : NewPhase → List Prop → Type 0

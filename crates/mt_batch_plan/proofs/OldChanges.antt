@@ -34,7 +34,7 @@ use Rattle.mt_meta.proofs.ModeLaws.{IsWhole, old_in, new_in, whole, says, early_
 use Rattle.mt_meta.proofs.Growth.{no_rows}
 use Rattle.mt_meta.proofs.StorePuts.{moves_puts, Leaves, touched, IsSeen, seen, no_row, the_row}
 use Rattle.mt_meta.proofs.Parts.{FormsAt, KeptAt, kept_on, by_part, old_early}
-use Rattle.mt_batch_plan.specs.Calls.{marker_birth, is_write_phase}
+use Rattle.mt_batch_plan.specs.Bases.{marker_birth, is_write_phase}
 use Rattle.mt_batch_plan.specs.Unmoved.{StaysInOld}
 
 -- what a put writes; a check and a delete write nothing

@@ -1,12 +1,7 @@
--- What the puts of a batch do to the rows of the old store, as clients see them.
-use Rattle.std.proofs.Common.{◌≡◌, ℕ, Bool, true, false, cond, not, ◌||◌, ◌&&◌, List, [], ◌∷◌, map, filter, refl, sym, ap, ◌∙◌, bytes_eq, Some, None, Option, Ok, Err}
+-- Rows as clients see them: their properties are visible, before and after an operation.
+use Rattle.std.proofs.Common.{◌≡◌, ℕ, Bool, true, false, cond, not, ◌&&◌, List, [], ◌∷◌, filter, refl, sym, ap, ◌∙◌, bytes_eq, Some, None, Option, Ok, Err}
 use Rattle.std.specs.Prelude.{option_map}
-use Rattle.std.specs.List.{list_any, zip, AllByRecursion}
-use Rattle.std.specs.List.Sorted.{IsStrictlySortedBy}
-use Rattle.std.specs.Result.{result_err}
-use Rattle.std.specs.Ordering.{nat_cmp, is_eq}
-use Rattle.std.specs.declared.cmp.Ordering.TheVariants.{Less}
-use Rattle.std.specs.Cmp.Lexicographic.{slice_cmp, texts_ties, nat_list_eq_equiv}
+use Rattle.std.specs.List.{list_any}
 use Rattle.mt_model.specs.declared.tag.Tag.{Tag}
 use Rattle.mt_model.specs.declared.value.Prop.{Prop}
 use Rattle.mt_model.specs.declared.name.Hidden.TheVariants as hidden
@@ -15,24 +10,19 @@ use Rattle.mt_model.specs.Props.{is_visible, hidden_text, text_of}
 use Rattle.mt_model.specs.Merge.{put_prop, merged}
 use Rattle.mt_model.proofs.Merging.{none-put, or_false}
 use Rattle.mt_chain.specs.declared.row.Stored.{Stored}
-use Rattle.mt_chain.specs.declared.row.StoredRow.{StoredRow}
 use Rattle.mt_chain.specs.declared.op.Op.{Op}
 use Rattle.mt_chain.specs.declared.op.Op.TheVariants.{Insert, Replace, Merge, Delete, InsertOrReplace, InsertOrMerge}
 use Rattle.mt_chain.specs.declared.op.Cause.{Cause}
 use Rattle.mt_chain.specs.declared.op.Cause.TheVariants.{ConditionFailed}
 use Rattle.mt_chain.specs.Rows.{key_at}
-use Rattle.mt_chain.specs.Puts.{row_key, tag_of, tags_of, counter_after}
-use Rattle.mt_chain.specs.Effect.{Outcome, op_key, op_props, meets, writes, limits_cause, unless_refused, merges, effect, any_tag, cause_on, left_by}
-use Rattle.mt_chain.specs.Batch.{names, op_at, row_after}
-use Rattle.mt_chain.proofs.KeyLaws.{is_tied, text_true, text_same}
-use Rattle.mt_chain.proofs.PutLaws as puts
-use Rattle.mt_chain.proofs.PutLaws.{is_named, row_after_unnamed}
+use Rattle.mt_chain.specs.Effect.{Outcome, op_key, op_props, meets, writes, limits_cause, unless_refused, merges, effect, any_tag}
+use Rattle.mt_chain.specs.Batch.{names}
+use Rattle.mt_chain.proofs.KeyLaws.{is_tied, text_same}
 use Rattle.mt_rules.proofs.VisibleLaws.{none_hidden}
 use Rattle.mt_meta.specs.Marks.{seen_tag, seen_in, kept_tag, mark_of}
-use Rattle.mt_meta.specs.Logical.{shown_with}
+use Rattle.mt_meta.specs.Logical.{shown_with, from_old}
 use Rattle.mt_meta.specs.Steps.{as_row}
 use Rattle.mt_meta.proofs.MarkLaws.{visible_value}
-use Rattle.mt_batch_plan.specs.Calls.{kept_in, seen_row, put_of, put_on, put_for}
 
 -- ---- visible properties
 
@@ -63,6 +53,10 @@ RowVisible (Some row) = AreVisible row.props
 with_visible : (ps : List Prop) (tag : Option Tag) → RowVisible (option_map as_row (shown_with ps tag))
 with_visible ps None = tt
 with_visible ps (Some tag) = none_hidden ps
+
+-- old's row as clients see it
+abbrev pub seen_row : Option Stored → Option Stored
+seen_row row = option_map as_row (from_old row)
 
 -- clients see visible properties alone
 pub seen_visible : (row : Option Stored) → RowVisible (seen_row row)
@@ -133,78 +127,8 @@ writes_visible (InsertOrReplace key props) (Some row) h g = h
 writes_visible (InsertOrMerge key props) None h g = h
 writes_visible (InsertOrMerge key props) (Some row) h g = limited_visible (limits_cause (merged row.props props)) (merged row.props props) (visible_merged row.props props g h)
 
--- ---- the put of one operation
-
-key_of_put : (rk : List ℕ) (row made : Option Stored) → row_key (put_of rk row made) ≡ rk
-key_of_put rk None None = refl
-key_of_put rk None (Some made) = refl
-key_of_put rk (Some row) None = refl
-key_of_put rk (Some row) (Some made) = refl
-
-pub put_key : (rows : List StoredRow) (op : Op) → row_key (put_for rows op) ≡ (op_key op).rk
-put_key rows op =
-    let row = kept_in rows (op_key op).rk in
-    key_of_put (op_key op).rk row (left_by (effect op (seen_row row) any_tag) None)
-
-left_shows : (store n : ℕ) (rk : List ℕ) (row : Option Stored) (made : Outcome) → result_err made ≡ None → WritesVisible made
-    → seen_row (puts.left_by store n (put_of rk row (left_by made None)) row) ≡ left_by (with_tag (tag_of store n (put_of rk row (left_by made None))) made) (seen_row row)
-left_shows store n rk row (Err cause) accepted h = absurd cc
-left_shows store n rk None (Ok None) accepted h = refl
-left_shows store n rk (Some row) (Ok None) accepted h = refl
-left_shows store n rk None (Ok (Some made)) accepted h = shows_itself made.props _ h
-left_shows store n rk (Some row) (Ok (Some made)) accepted h = shows_itself made.props _ h
-
--- the put of an operation leaves what clients see as the operation's effect on what they saw
-pub put_shows : (store n : ℕ) (op : Op) (row : Option Stored) → AreVisible (op_props op) → cause_on op (seen_row row) ≡ None
-    → seen_row (puts.left_by store n (put_on op row) row) ≡ left_by (effect op (seen_row row) (tag_of store n (put_on op row))) (seen_row row)
-put_shows store n op row visible accepted =
-    left_shows store n (op_key op).rk row (effect op (seen_row row) any_tag) accepted (writes_visible op (seen_row row) visible (seen_visible row))
-    ∙ ap (λ made. left_by made (seen_row row)) (sym (with_its_tag op (seen_row row) (tag_of store n (put_on op row))))
-
--- ---- the puts of a batch
-
--- an operation of the partition that is accepted on the row read at its key, which is still what old holds there
-pub record Stands (rows : List StoredRow) (pk : List ℕ) (now : List ℕ → Option Stored) (op : Op) : Type 0 where
-  pub partition : (op_key op).pk ≡ pk
-  pub same : now (op_key op).rk ≡ kept_in rows (op_key op).rk
-  pub visible : AreVisible (op_props op)
-  pub accepted : cause_on op (seen_row (kept_in rows (op_key op).rk)) ≡ None
+-- ---- keys
 
 -- an operation of the partition names a key of it by its row key
 pub names_in : (pk rk : List ℕ) (op : Op) → (op_key op).pk ≡ pk → names (key_at pk rk) op ≡ bytes_eq (op_key op).rk rk
 names_in pk rk op e = is_tied (op_key op) (key_at pk rk) ∙ ap (λ x. bytes_eq x pk && bytes_eq (op_key op).rk rk) e ∙ ap (λ b. b && bytes_eq (op_key op).rk rk) (text_same pk)
-
-below_not_named : (rows : List StoredRow) (rk : List ℕ) (ops : List Op) → AllByRecursion (λ y. slice_cmp nat_cmp rk y ≡ Less) (map (λ op. (op_key op).rk) ops) → is_named rk (map (put_for rows) ops) ≡ false
-below_not_named rows rk [] h = refl
-below_not_named rows rk (op ∷ ops) h =
-    let apart : bytes_eq (row_key (put_for rows op)) rk ≡ false =
-    ap (λ k. bytes_eq k rk) (put_key rows op) ∙ nat_list_eq_equiv.symm (op_key op).rk rk ∙ texts_ties rk (op_key op).rk ∙ ap is_eq h.0 in
-    ap (λ b. b || is_named rk (map (put_for rows) ops)) apart ∙ below_not_named rows rk ops h.1
-
--- at each row key clients see afterwards the batch on what they saw, where each operation has the tag of its put
-pub rows_show : (store n : ℕ) (rows : List StoredRow) (pk : List ℕ) (now : List ℕ → Option Stored) (ops : List Op) (rk : List ℕ)
-    → AllByRecursion (Stands rows pk now) ops → IsStrictlySortedBy (slice_cmp nat_cmp) (map (λ op. (op_key op).rk) ops)
-    → seen_row (puts.row_after store n (map (put_for rows) ops) rk (now rk)) ≡ row_after (op_at (zip ops (tags_of store n (map (put_for rows) ops))) (key_at pk rk)) (seen_row (now rk))
-unfolding IsStrictlySortedBy
-rows_show store n rows pk now [] rk all rising = refl
-rows_show store n rows pk now (op ∷ ops) rk all rising =
-    go (bytes_eq (op_key op).rk rk) refl (ap (λ k. bytes_eq k rk) (put_key rows op)) (names_in pk rk op all.0.partition)
-    (rows_show store (counter_after n (put_for rows op)) rows pk now ops rk all.1 rising.1) where
-      go : (b : Bool) → bytes_eq (op_key op).rk rk ≡ b → bytes_eq (row_key (put_for rows op)) rk ≡ bytes_eq (op_key op).rk rk → names (key_at pk rk) op ≡ bytes_eq (op_key op).rk rk
-          → seen_row (puts.row_after store (counter_after n (put_for rows op)) (map (put_for rows) ops) rk (now rk)) ≡ row_after (op_at (zip ops (tags_of store (counter_after n (put_for rows op)) (map (put_for rows) ops))) (key_at pk rk)) (seen_row (now rk))
-          → seen_row (puts.row_after store n (map (put_for rows) (op ∷ ops)) rk (now rk)) ≡ row_after (op_at (zip (op ∷ ops) (tags_of store n (map (put_for rows) (op ∷ ops)))) (key_at pk rk)) (seen_row (now rk))
-      go true e k m rest =
-          let row = kept_in rows (op_key op).rk in
-          let tag = tag_of store n (put_for rows op) in
-          let stands : now rk ≡ row = ap now (sym (text_true (op_key op).rk rk e)) ∙ all.0.same in
-          let out : is_named rk (map (put_for rows) ops) ≡ false = ap (λ r. is_named r (map (put_for rows) ops)) (sym (text_true (op_key op).rk rk e)) ∙ below_not_named rows (op_key op).rk ops rising.0 in
-          ap (λ b. seen_row (puts.row_after store (counter_after n (put_for rows op)) (map (put_for rows) ops) rk (cond b (puts.left_by store n (put_for rows op) (now rk)) (now rk)))) (k ∙ e)
-          ∙ ap seen_row (row_after_unnamed store (counter_after n (put_for rows op)) (map (put_for rows) ops) rk (puts.left_by store n (put_for rows op) (now rk)) out)
-          ∙ ap (λ x. seen_row (puts.left_by store n (put_for rows op) x)) stands
-          ∙ put_shows store n op row all.0.visible all.0.accepted
-          ∙ ap (λ x. left_by (effect op (seen_row x) tag) (seen_row x)) (sym stands)
-          ∙ ap (λ b. row_after (cond b (Some (op, tag)) (op_at (zip ops (tags_of store (counter_after n (put_for rows op)) (map (put_for rows) ops))) (key_at pk rk))) (seen_row (now rk))) (sym (m ∙ e))
-      go false e k m rest =
-          ap (λ b. seen_row (puts.row_after store (counter_after n (put_for rows op)) (map (put_for rows) ops) rk (cond b (puts.left_by store n (put_for rows op) (now rk)) (now rk)))) (k ∙ e)
-          ∙ rest
-          ∙ ap (λ b. row_after (cond b (Some (op, tag_of store n (put_for rows op))) (op_at (zip ops (tags_of store (counter_after n (put_for rows op)) (map (put_for rows) ops))) (key_at pk rk))) (seen_row (now rk))) (sym (m ∙ e))

@@ -25,7 +25,6 @@ use Rattle.mt_chain.specs.Effect.{Outcome, op_key, meets, writes, limits_cause, 
 use Rattle.mt_chain.specs.Batch.{Tagged, cause_in, names, op_at, row_after, tags_answered}
 use Rattle.mt_chain.proofs.PutLaws.{counter_rises, counter_one}
 use Rattle.mt_history.specs.Legal.{is_write, tags_written, IsGone}
-use Rattle.mt_batch_plan.specs.Calls.{kept_in, seen_row, put_of, put_for}
 
 -- ---- the tags that a client is told
 
@@ -94,75 +93,11 @@ all_gone [] tags table h = tt
 all_gone (op ∷ ops) [] table h = tt
 all_gone (op ∷ ops) (tag ∷ tags) table h = (one_gone op (table (op_key op)) tag h.0, all_gone ops tags table h.1)
 
--- ---- the tags of puts
-
--- a row is left
-abbrev LeavesRow : Outcome → Type 0
-LeavesRow (Ok (Some row)) = Unit {0}
-LeavesRow made = ⊥
-
-met_leaves : (met : Bool) (a : Outcome) → (result_err a ≡ None → LeavesRow a) → result_err (cond met a (Err ConditionFailed)) ≡ None → LeavesRow (cond met a (Err ConditionFailed))
-met_leaves true a h accepted = h accepted
-met_leaves false a h accepted = absurd cc
-
-limited_leaves : (cause : Option Cause) (ps : List Prop) → result_err (unless_refused cause (writes ps any_tag)) ≡ None → LeavesRow (unless_refused cause (writes ps any_tag))
-limited_leaves None ps accepted = tt
-limited_leaves (Some cause) ps accepted = absurd cc
-
-merge_leaves : (own over : List Prop) → result_err (merges own over any_tag) ≡ None → LeavesRow (merges own over any_tag)
-merge_leaves own over accepted = limited_leaves (limits_cause (merged own over)) (merged own over) accepted
-
-leaves_row : (op : Op) (row : Option Stored) → is_write op ≡ true → cause_on op row ≡ None → LeavesRow (effect op row any_tag)
-leaves_row (Insert key props) None does accepted = tt
-leaves_row (Insert key props) (Some row) does accepted = absurd cc
-leaves_row (Replace key props c) None does accepted = absurd cc
-leaves_row (Replace key props c) (Some row) does accepted = met_leaves (meets c row.tag) (writes props any_tag) (λ e. tt) accepted
-leaves_row (Merge key props c) None does accepted = absurd cc
-leaves_row (Merge key props c) (Some row) does accepted = met_leaves (meets c row.tag) (merges row.props props any_tag) (merge_leaves row.props props) accepted
-leaves_row (Delete key c) row does accepted = absurd cc
-leaves_row (InsertOrReplace key props) None does accepted = tt
-leaves_row (InsertOrReplace key props) (Some row) does accepted = tt
-leaves_row (InsertOrMerge key props) None does accepted = tt
-leaves_row (InsertOrMerge key props) (Some row) does accepted = merge_leaves row.props props accepted
-
--- the put takes the next tag
-record TakesNext (store n : ℕ) (put : Put) : Type 0 where
-  pub tag : tag_of store n put ≡ next_tag store n
-  pub counter : counter_after n put ≡ n + 1
-
-takes_next : (store n : ℕ) (rk : List ℕ) (row : Option Stored) (made : Outcome) → LeavesRow made → TakesNext store n (put_of rk row (left_by made None))
-takes_next store n rk row (Err cause) h = absurd h
-takes_next store n rk row (Ok None) h = absurd h
-takes_next store n rk None (Ok (Some made)) h = record { tag = refl; counter = refl }
-takes_next store n rk (Some row) (Ok (Some made)) h = record { tag = refl; counter = refl }
-
--- the operation is accepted on the row that was read at its key
-abbrev pub IsAccepted : List StoredRow → Op → Type 0
-IsAccepted rows op = cause_on op (seen_row (kept_in rows (op_key op).rk)) ≡ None
-
-write_takes : (store n : ℕ) (rows : List StoredRow) (op : Op) → IsAccepted rows op → is_write op ≡ true → TakesNext store n (put_for rows op)
-write_takes store n rows op accepted does =
-    let row = kept_in rows (op_key op).rk in
-    takes_next store n (op_key op).rk row (effect op (seen_row row) any_tag) (leaves_row op (seen_row row) does accepted)
+-- ---- the tags of writes
 
 -- the tag of what is written is of that store, above n and at most m
 abbrev pub GetsTag : ℕ → ℕ → ℕ → Tagged → Type 0
 GetsTag store n m o = is_write o.0 ≡ true → (o.1.store ≡ store) × (n < o.1.n) × (o.1.n ≤ m)
-
-from_below : (store k n m : ℕ) → k ≤ n → (xs : List Tagged) → AllByRecursion (GetsTag store n m) xs → AllByRecursion (GetsTag store k m) xs
-from_below store k n m le [] h = tt
-from_below store k n m le (x ∷ xs) h = (λ does. (let g = h.0 does in (g.0, omega (arith, g.1), g.2)), from_below store k n m le xs h.1)
-
-pub all_given : (store n : ℕ) (rows : List StoredRow) (ops : List Op) → AllByRecursion (IsAccepted rows) ops
-    → AllByRecursion (GetsTag store n (all_counter_after n (map (put_for rows) ops))) (zip ops (tags_of store n (map (put_for rows) ops)))
-all_given store n rows [] h = tt
-all_given store n rows (op ∷ ops) h = (
-  λ does. (let takes = write_takes store n rows op h.0 does in
-      let number : (tag_of store n (put_for rows op)).n ≡ n + 1 = ap (λ t. t.n) takes.tag in
-      let rises = (counter_rises (counter_after n (put_for rows op)) (map (put_for rows) ops)).0 in
-      (ap (λ t. t.store) takes.tag, omega (arith, number), omega (arith, number, takes.counter, rises))),
-  from_below store n (counter_after n (put_for rows op)) _ (counter_one n (put_for rows op)).0 _ (all_given store (counter_after n (put_for rows op)) rows ops h.1),
-)
 
 -- what holds of the tags of the operations that leave rows
 pub written_all : (P : Tag → Type 0) (xs : List Tagged) → AllByRecursion (λ (o : Tagged). is_write o.0 ≡ true → P o.1) xs → AllByRecursion P (of_writes xs)
@@ -174,37 +109,16 @@ written_all P (x ∷ xs) h =
     ] refl
 
 -- both leave rows, with the same number
-abbrev clash : Tagged → Tagged → Bool
+abbrev pub clash : Tagged → Tagged → Bool
 clash a b = (is_write a.0 && is_write b.0) && nat_eq a.1.n b.1.n
 
-clash_flips : (a b : Tagged) → clash a b ≡ clash b a
+pub clash_flips : (a b : Tagged) → clash a b ≡ clash b a
 clash_flips a b = go (is_write a.0) (is_write b.0) where
   go : (x y : Bool) → ((x && y) && nat_eq a.1.n b.1.n) ≡ ((y && x) && nat_eq b.1.n a.1.n)
   go true true = grind arith
   go true false = refl
   go false true = refl
   go false false = refl
-
-none_clash : (store m : ℕ) (x : Tagged) (xs : List Tagged) → (is_write x.0 ≡ true → (n : ℕ) × (x.1.n ≡ n) × AllByRecursion (GetsTag store n m) xs) → AllByRecursion (λ o. clash x o ≡ false) xs
-none_clash store m x [] h = tt
-none_clash store m x (o ∷ xs) h = (
-  go (is_write x.0) (is_write o.0) refl refl,
-  none_clash store m x xs (λ does. (let g = h does in (g.0, g.1, g.2.1))),
-) where
-  go : (a b : Bool) → is_write x.0 ≡ a → is_write o.0 ≡ b → ((a && b) && nat_eq x.1.n o.1.n) ≡ false
-  go false b e f = refl
-  go true false e f = refl
-  go true true e f = (let g = h e in let above = (g.2.0 f).1 in let is = g.1 in ne_eqb x.1.n o.1.n (λ same. absurd (omega (arith, above, is, same))))
-
-all_apart : (store n : ℕ) (rows : List StoredRow) (ops : List Op) → AllByRecursion (IsAccepted rows) ops → IsDistinct clash (zip ops (tags_of store n (map (put_for rows) ops)))
-unfolding IsDistinct
-all_apart store n rows [] h = tt
-all_apart store n rows (op ∷ ops) h = (
-  none_clash store (all_counter_after n (map (put_for rows) (op ∷ ops))) (op, tag_of store n (put_for rows op)) (zip ops (tags_of store (counter_after n (put_for rows op)) (map (put_for rows) ops))) (λ does.
-      (let takes = write_takes store n rows op h.0 does in
-      (counter_after n (put_for rows op), ap (λ t. t.n) takes.tag ∙ sym takes.counter, all_given store (counter_after n (put_for rows op)) rows ops h.1))),
-  all_apart store (counter_after n (put_for rows op)) rows ops h.1,
-)
 
 differ : (x : Tagged) (xs : List Tagged) → is_write x.0 ≡ true → AllByRecursion (λ o. clash x o ≡ false) xs → AllByRecursion (λ (o : Tagged). is_write o.0 ≡ true → x.1 ≢ o.1) xs
 differ x [] does h = tt
@@ -228,9 +142,3 @@ pairs_apart (x ∷ xs) h =
 pub given_reordered : (store n m : ℕ) (xs ys : List Tagged) → IsPermutation ys xs → AllByRecursion (GetsTag store n m) xs → AllByRecursion (GetsTag store n m) ys
 given_reordered store n m xs ys same h =
     recursion_from_All (GetsTag store n m) ys (All-permutation (GetsTag store n m) xs ys (IsPermutation-sym ys xs same) (All-from_recursion (GetsTag store n m) xs h))
-
-pub tags_apart : (store n : ℕ) (rows : List StoredRow) (sorted ops : List Op) (by_op : List Tag) → AllByRecursion (IsAccepted rows) sorted
-    → IsPermutation (zip ops by_op) (zip sorted (tags_of store n (map (put_for rows) sorted))) → AllPairs (λ a b. a ≢ b) (tags_written ops by_op)
-tags_apart store n rows sorted ops by_op h same =
-    let xs = zip sorted (tags_of store n (map (put_for rows) sorted)) in
-    pairs_apart (zip ops by_op) (IsDistinct-IsPermutation clash clash_flips xs (zip ops by_op) (IsPermutation-sym (zip ops by_op) xs same) (all_apart store n rows sorted h))

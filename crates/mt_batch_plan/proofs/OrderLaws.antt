@@ -15,12 +15,14 @@ use Rattle.mt_chain.specs.declared.op.Op.{Op}
 use Rattle.mt_chain.specs.declared.op.Op.TheVariants.{Delete}
 use Rattle.mt_chain.specs.declared.op.Cond.TheVariants.{Any}
 use Rattle.mt_chain.specs.declared.row.Put.{Put}
-use Rattle.mt_chain.specs.declared.row.StoredRow.{StoredRow}
 use Rattle.mt_chain.specs.Rows.{key_at}
 use Rattle.mt_chain.specs.Puts.{CanApply, row_key}
 use Rattle.mt_meta.specs.Markers.{marker_key}
 use Rattle.mt_rules.specs.Batches.{IsBatch}
-use Rattle.mt_batch_plan.specs.Calls.{IsInOrder, put_for}
+use Rattle.mt_batch_plan.specs.declared.basis.Basis.{Basis}
+use Rattle.mt_batch_plan.specs.declared.basis.Basis.TheVariants.{OldRows, OldBirth, Overlay, NewRows, NewBirth}
+use Rattle.mt_batch_plan.specs.Bases.{put_by, marker_put}
+use Rattle.mt_batch_plan.specs.Calls.{IsInOrder}
 use Rattle.mt_batch_plan.specs.Plans.{IsOrder, picked, op_or, is_below}
 use Rattle.mt_batch_plan.proofs.NameLaws.{below, rk_of, distinct_names}
 use Rattle.mt_batch_plan.proofs.EffectLaws.{keys_of_puts}
@@ -65,12 +67,12 @@ picked_more ops order k op inside is =
     ∙ map_push (op_or ops) (take k order) (get_or order k 0)
     ∙ ap (λ o. picked ops (take k order) ++ o ∷ []) (sym is)
 
-pub puts_more : (ops : List Op) (order : List ℕ) (rows : List StoredRow) (first : Put) (k : ℕ) (op : Op) (put : Put) (puts : List Put) → k < length order → op ≡ op_or ops (get_or order k 0)
-    → put ≡ put_for rows op → puts ≡ first ∷ map (put_for rows) (picked ops (take k order)) → puts ++ put ∷ [] ≡ first ∷ map (put_for rows) (picked ops (take (k + 1) order))
-puts_more ops order rows first k op put puts inside is made before =
+pub puts_more : (ops : List Op) (order : List ℕ) (basis : Basis) (first : Put) (k : ℕ) (op : Op) (put : Put) (puts : List Put) → k < length order → op ≡ op_or ops (get_or order k 0)
+    → put ≡ put_by basis op → puts ≡ first ∷ map (put_by basis) (picked ops (take k order)) → puts ++ put ∷ [] ≡ first ∷ map (put_by basis) (picked ops (take (k + 1) order))
+puts_more ops order basis first k op put puts inside is made before =
     ap (λ l. l ++ put ∷ []) before
-    ∙ ap (λ p. (first ∷ map (put_for rows) (picked ops (take k order))) ++ p ∷ []) made
-    ∙ ap (λ l. first ∷ l) (sym (map_push (put_for rows) (picked ops (take k order)) op) ∙ ap (map (put_for rows)) (sym (picked_more ops order k op inside is)))
+    ∙ ap (λ p. (first ∷ map (put_by basis) (picked ops (take k order))) ++ p ∷ []) made
+    ∙ ap (λ l. first ∷ l) (sym (map_push (put_by basis) (picked ops (take k order)) op) ∙ ap (map (put_by basis)) (sym (picked_more ops order k op inside is)))
 
 -- ---- the order is found by sorting
 
@@ -107,19 +109,25 @@ is_order ops order batch moved up = record {
 
 -- ---- the puts may be asked
 
-pub can_write : (ops : List Op) (order : List ℕ) (rows : List StoredRow) (first : Put) → IsBatch ops → IsOrder ops order → row_key first ≡ marker_key
-    → CanApply (first ∷ map (put_for rows) (picked ops order))
-can_write ops order rows first batch h marker =
-    let puts = map (put_for rows) (picked ops order) in
-    let count : length puts ≡ length ops = length-map (picked ops order) (put_for rows) ∙ length-map order (op_or ops) ∙ order_length ops order h in
-    let keys : map row_key puts ≡ map rk_of (picked ops order) = keys_of_puts rows (picked ops order) in
+marker_put_key : (basis : Basis) → row_key (marker_put basis) ≡ marker_key
+marker_put_key (OldRows rows) = refl
+marker_put_key OldBirth = refl
+marker_put_key (Overlay rows entries) = refl
+marker_put_key (NewRows entries) = refl
+marker_put_key NewBirth = refl
+
+pub can_write : (ops : List Op) (order : List ℕ) (basis : Basis) → IsBatch ops → IsOrder ops order → CanApply (marker_put basis ∷ map (put_by basis) (picked ops order))
+can_write ops order basis batch h =
+    let puts = map (put_by basis) (picked ops order) in
+    let count : length puts ≡ length ops = length-map (picked ops order) (put_by basis) ∙ length-map order (op_or ops) ∙ order_length ops order h in
+    let keys : map row_key puts ≡ map rk_of (picked ops order) = keys_of_puts basis (picked ops order) in
     let moved : IsPermutation (marker_key ∷ map rk_of ops) (marker_key ∷ map rk_of (picked ops order)) =
     IsPermutation-append_right (marker_key ∷ []) (map rk_of ops) (map rk_of (picked ops order)) (IsPermutation-map rk_of ops (picked ops order) (in_order ops order h).all) in
     let apart = IsDistinct-IsPermutation bytes_eq nat_list_eq_equiv.symm (marker_key ∷ map rk_of ops) (marker_key ∷ map rk_of (picked ops order)) moved (distinct_names ops batch) in
     record {
       some = omega arith;
       few = omega (arith, count, batch.few);
-      apart = subst (λ k. IsDistinct bytes_eq (k ∷ map row_key puts)) (sym marker) (subst (λ ks. IsDistinct bytes_eq (marker_key ∷ ks)) (sym keys) apart);
+      apart = subst (λ k. IsDistinct bytes_eq (k ∷ map row_key puts)) (sym (marker_put_key basis)) (subst (λ ks. IsDistinct bytes_eq (marker_key ∷ ks)) (sym keys) apart);
     }
 
 -- the numbers below one more

@@ -9,7 +9,6 @@ use Rattle.mt_model.specs.declared.tag.Tag.{Tag}
 use Rattle.mt_model.specs.declared.value.Prop.{Prop}
 use Rattle.mt_model.specs.Merge.{merged}
 use Rattle.mt_chain.specs.declared.row.Stored.{Stored}
-use Rattle.mt_chain.specs.declared.row.StoredRow.{StoredRow}
 use Rattle.mt_chain.specs.declared.row.Put.{Put}
 use Rattle.mt_chain.specs.declared.op.Op.{Op}
 use Rattle.mt_chain.specs.declared.op.Op.TheVariants.{Insert, Replace, Merge, Delete, InsertOrReplace, InsertOrMerge}
@@ -20,10 +19,9 @@ use Rattle.mt_chain.specs.Effect.{Outcome, op_key, meets, writes, limits_cause, 
 use Rattle.mt_chain.specs.Batch.{Tagged}
 use Rattle.mt_chain.proofs.PutLaws.{counter_rises, counter_one}
 use Rattle.mt_history.specs.Legal.{is_write, tags_written}
-use Rattle.mt_meta.specs.declared.marker.NewPhase.{NewPhase}
-use Rattle.mt_batch_plan.specs.Calls.{kept_in, put_of}
-use Rattle.mt_batch_plan.specs.NewPuts.{table_over, kept_as, entry_put}
-use Rattle.mt_batch_plan.proofs.OnTags.{GetsTag, pairs_apart}
+use Rattle.mt_batch_plan.specs.declared.basis.Basis.{Basis}
+use Rattle.mt_batch_plan.specs.Bases.{seen_by, stored_in, kept_on, put_of, put_by}
+use Rattle.mt_batch_plan.proofs.OnTags.{GetsTag, clash, clash_flips, pairs_apart}
 
 -- ---- an operation that writes
 
@@ -65,18 +63,17 @@ pub record TakesNext (store n : ℕ) (put : Put) : Type 0 where
 abbrev pub Takes : ℕ → (Op → Put) → Op → Type 0
 Takes store put op = is_write op ≡ true → (n : ℕ) → TakesNext store n (put op)
 
-entry_takes : (store n : ℕ) (phase : NewPhase) (rk : List ℕ) (entry : Option Stored) (made : Outcome) → LeavesRow made → TakesNext store n (put_of rk entry (kept_as phase (left_by made None)))
-entry_takes store n phase rk entry (Err cause) h = absurd h
-entry_takes store n phase rk entry (Ok None) h = absurd h
-entry_takes store n phase rk None (Ok (Some made)) h = record { tag = refl; counter = refl }
-entry_takes store n phase rk (Some was) (Ok (Some made)) h = record { tag = refl; counter = refl }
+takes_next : (basis : Basis) (store n : ℕ) (rk : List ℕ) (row : Option Stored) (made : Outcome) → LeavesRow made → TakesNext store n (put_of rk row (kept_on basis (left_by made None)))
+takes_next basis store n rk row (Err cause) h = absurd h
+takes_next basis store n rk row (Ok None) h = absurd h
+takes_next basis store n rk None (Ok (Some made)) h = record { tag = refl; counter = refl }
+takes_next basis store n rk (Some was) (Ok (Some made)) h = record { tag = refl; counter = refl }
 
-pub entries_take : (store : ℕ) (phase : NewPhase) (rows entries : List StoredRow) (ops : List Op) → AllByRecursion (λ op. cause_on op (table_over phase rows entries (op_key op)) ≡ None) ops
-    → AllByRecursion (Takes store (entry_put phase rows entries)) ops
-entries_take store phase rows entries [] h = tt
-entries_take store phase rows entries (op ∷ ops) h = (
-  λ does n. entry_takes store n phase (op_key op).rk (kept_in entries (op_key op).rk) (effect op (table_over phase rows entries (op_key op)) any_tag) (leaves_row op (table_over phase rows entries (op_key op)) does h.0),
-  entries_take store phase rows entries ops h.1,
+pub puts_take : (store : ℕ) (basis : Basis) (ops : List Op) → AllByRecursion (λ op. cause_on op (seen_by basis (op_key op).rk) ≡ None) ops → AllByRecursion (Takes store (put_by basis)) ops
+puts_take store basis [] h = tt
+puts_take store basis (op ∷ ops) h = (
+  λ does n. takes_next basis store n (op_key op).rk (stored_in basis (op_key op).rk) (effect op (seen_by basis (op_key op).rk) any_tag) (leaves_row op (seen_by basis (op_key op).rk) does h.0),
+  puts_take store basis ops h.1,
 )
 
 -- ---- the tags of a batch
@@ -96,18 +93,6 @@ all_given store n put (op ∷ ops) h = (
       (ap (λ (t : Tag). t.store) takes.tag, omega (arith, number), omega (arith, number, next, rises))),
   from_below store n (counter_after n (put op)) (all_counter_after n (map put (op ∷ ops))) (counter_one n (put op)).0 (zip ops (tags_of store (counter_after n (put op)) (map put ops))) (all_given store (counter_after n (put op)) put ops h.1),
 )
-
--- both leave rows, with the same number
-abbrev clash : Tagged → Tagged → Bool
-clash a b = (is_write a.0 && is_write b.0) && nat_eq a.1.n b.1.n
-
-clash_flips : (a b : Tagged) → clash a b ≡ clash b a
-clash_flips a b = go (is_write a.0) (is_write b.0) where
-  go : (x y : Bool) → ((x && y) && nat_eq a.1.n b.1.n) ≡ ((y && x) && nat_eq b.1.n a.1.n)
-  go true true = grind arith
-  go true false = refl
-  go false true = refl
-  go false false = refl
 
 none_clash : (store m : ℕ) (x : Tagged) (xs : List Tagged) → (is_write x.0 ≡ true → (n : ℕ) × (x.1.n ≡ n) × AllByRecursion (GetsTag store n m) xs) → AllByRecursion (λ o. clash x o ≡ false) xs
 none_clash store m x [] h = tt

@@ -5,7 +5,6 @@ use Rattle.mt_model.specs.declared.tag.Tag.{Tag}
 use Rattle.mt_chain.specs.declared.op.Op.{Op}
 use Rattle.mt_chain.specs.Table.{IsSameTable}
 use Rattle.mt_chain.specs.Batch.{refusal_of, batch_applied}
-use Rattle.mt_rules.specs.Batches.{partition_of}
 use Rattle.mt_history.specs.Legal.{tags_written, IsGone}
 use Rattle.mt_meta.specs.Logical.{Pair}
 use Rattle.mt_meta.specs.Steps.{logical_table, ActorStep, IsFresh}
@@ -31,4 +30,4 @@ Does ops (Written tags) p q = IsWritten ops tags p q
 
 -- a step of a batch, from one place to the next: a step of an actor that knows what these places know
 abbrev pub BatchStep : List Op → Place → Place → Bool → BatchProgress → Pair → Pair → Type 0
-BatchStep ops place to retired said p q = ActorStep (place_facts (partition_of ops) place) (place_facts (partition_of ops) to) retired retired (Does ops said) p q
+BatchStep ops place to retired said p q = ActorStep (place_facts ops place) (place_facts ops to) retired retired (Does ops said) p q

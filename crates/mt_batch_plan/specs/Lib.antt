@@ -1,5 +1,5 @@
+pub mod Bases
 pub mod Calls
-pub mod NewPuts
 pub mod Plans
 pub mod Verdicts
 pub mod BatchSteps

@@ -1,39 +1,35 @@
 -- What a batch call prepares with its read, so that it answers a write without memory.
-use Rattle.std.specs.Prelude.{◌≡◌, ℕ, Bool, true, false, List, [], map, length, Option, Some, None, option_map}
+use Rattle.std.specs.Prelude.{◌≡◌, ℕ, Bool, true, false, List, [], map, filter, length, Option, Some, None, option_map}
 use Rattle.std.specs.List.{range_with_len, slice_index_or, slice_set}
 use Rattle.std.specs.List.Sorted.{IsStrictlySortedBy, IsPermutation}
 use Rattle.std.specs.Ordering.{nat_cmp, is_lt}
 use Rattle.std.specs.Cmp.Lexicographic.{slice_cmp}
 use Rattle.mt_model.specs.declared.tag.Tag.{Tag}
 use Rattle.mt_model.specs.declared.value.Prop.{Prop}
+use Rattle.mt_model.specs.Props.{is_visible}
 use Rattle.mt_model.specs.Merge.{merged}
 use Rattle.mt_chain.specs.declared.op.Cond.TheVariants.{Any}
 use Rattle.mt_chain.specs.declared.op.Op.{Op}
 use Rattle.mt_chain.specs.declared.op.Op.TheVariants.{Insert, Replace, Merge, Delete, InsertOrReplace, InsertOrMerge}
 use Rattle.mt_chain.specs.declared.row.Stored.{Stored}
-use Rattle.mt_chain.specs.declared.row.StoredRow.{StoredRow}
 use Rattle.mt_chain.specs.Rows.{key_at}
-use Rattle.mt_chain.specs.Table.{Table, empty_table}
+use Rattle.mt_chain.specs.Table.{Table}
 use Rattle.mt_chain.specs.Effect.{op_key, told_tag, any_tag}
-use Rattle.mt_meta.specs.Marks.{seen_tag}
+use Rattle.mt_batch_plan.specs.declared.basis.Basis.{Basis}
+use Rattle.mt_batch_plan.specs.declared.basis.Sight.{Sight}
 use Rattle.mt_batch_plan.specs.declared.place.Place.{Place}
-use Rattle.mt_batch_plan.specs.declared.place.Place.TheVariants.{ReadOld, WriteOld, BirthOld}
-use Rattle.mt_batch_plan.specs.Calls.{kept_row, seen_row, table_seen}
+use Rattle.mt_batch_plan.specs.declared.place.Place.TheVariants.{ReadOld, ReadNew, Write}
+use Rattle.mt_batch_plan.specs.Bases.{table_on, kept_props, kept_gone}
 
 -- the one text is below the other
 abbrev pub is_below : List ℕ → List ℕ → Bool
 is_below a b = is_lt (slice_cmp nat_cmp a b)
 
--- ---- the rows that were read
+-- ---- what clients see
 
--- a row that was read of the old store, as clients see it
-abbrev pub as_seen : Option StoredRow → Option Stored
-as_seen row = seen_row (option_map kept_row row)
-
--- the tag that clients see of it
-abbrev pub tag_in : Option StoredRow → Option Tag
-tag_in None = None
-tag_in (Some row) = seen_tag row.props row.tag
+-- a sight of a row, as a row of a table
+abbrev pub sight_row : Sight → Stored
+sight_row s = record { props = filter is_visible s.props.now; tag = s.tag }
 
 -- ---- the puts
 
@@ -54,6 +50,11 @@ left_props (InsertOrMerge key props) row = Some (merged_on row props)
 -- the row of these properties, which has no tag yet
 abbrev pub as_left : Option (List Prop) → Option Stored
 as_left left = option_map (λ ps. record { props = ps; tag = any_tag }) left
+
+-- what the store that is written keeps of them
+abbrev pub kept_left : Basis → Option (List Prop) → Option (List Prop)
+kept_left basis None = kept_gone basis
+kept_left basis (Some ps) = Some (kept_props basis ps)
 
 -- ---- the order of the operations
 
@@ -88,5 +89,5 @@ pub record IsPlan (ops : List Op) (table : Table) (order : List ℕ) (tags : Lis
 -- at a write the answer is prepared on the rows that it stands on
 abbrev pub IsPlanned : List Op → Place → List ℕ → List Tag → Type 0
 IsPlanned ops ReadOld order tags = Unit {0}
-IsPlanned ops (WriteOld rows) order tags = IsPlan ops (table_seen rows) order tags
-IsPlanned ops BirthOld order tags = IsPlan ops empty_table order tags
+IsPlanned ops (ReadNew after) order tags = Unit {0}
+IsPlanned ops (Write basis) order tags = IsPlan ops (table_on basis) order tags

@@ -6,7 +6,9 @@ use Rattle.mt_rules.specs.Batches.{partition_of}
 use Rattle.mt_meta.specs.Markers.{marker_key}
 use Rattle.mt_meta.specs.Logical.{Pair, NoOld, AtUseOld, old_state_at, old_at, new_at}
 use Rattle.mt_batch_plan.specs.declared.place.Place.{Place}
-use Rattle.mt_batch_plan.specs.declared.place.Place.TheVariants.{ReadOld, WriteOld, BirthOld}
+use Rattle.mt_batch_plan.specs.declared.place.Place.TheVariants.{ReadOld, ReadNew, Write}
+use Rattle.mt_batch_plan.specs.declared.basis.Basis.{Basis}
+use Rattle.mt_batch_plan.specs.declared.basis.Basis.TheVariants.{OldRows, OldBirth, Overlay, NewRows, NewBirth}
 use Rattle.mt_batch_plan.specs.Calls.{AreNames}
 
 -- each partition of old is at `use-old`, and old takes births
@@ -26,8 +28,15 @@ pub record StaysInOld (p q : Pair) : Type 0 where
   pub sealed : q.old.sealed ≡ p.old.sealed
   pub markers : (pk : List ℕ) → (old_state_at q pk ≡ old_state_at p pk) ⊎ (old_state_at q pk ≡ AtUseOld)
 
--- what the call has read is what old holds, since no other actor came between
+-- what the call has read is what old holds, since no other actor came between; it does not go to new
+abbrev pub BasisStands : Pair → List Op → Basis → Type 0
+BasisStands p ops (OldRows rows) = (names : List (List ℕ)) × AreNames ops names × (rows ≡ named_rows p.old.rows (partition_of ops) names)
+BasisStands p ops OldBirth = old_at p (partition_of ops) marker_key ≡ None
+BasisStands p ops (Overlay rows entries) = ⊥
+BasisStands p ops (NewRows entries) = ⊥
+BasisStands p ops NewBirth = ⊥
+
 abbrev pub StandsOn : Pair → List Op → Place → Type 0
 StandsOn p ops ReadOld = Unit {0}
-StandsOn p ops (WriteOld rows) = (names : List (List ℕ)) × AreNames ops names × (rows ≡ named_rows p.old.rows (partition_of ops) names)
-StandsOn p ops BirthOld = old_at p (partition_of ops) marker_key ≡ None
+StandsOn p ops (ReadNew after) = ⊥
+StandsOn p ops (Write basis) = BasisStands p ops basis

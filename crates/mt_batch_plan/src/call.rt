@@ -3,13 +3,14 @@ ghost use Rattle.std.specs.Prelude.{◌≡◌, IfOk};
 ghost use Rattle.mt_chain.specs.declared.ask.StoreAsk.{StoreAsk};
 ghost use Rattle.mt_chain.specs.Asks.{CanAsk, FitsAsk};
 ghost use Rattle.mt_batch_plan.specs.Calls.{CallFits, Asks, Absorbs, Reads, is_write};
+ghost use Rattle.mt_batch_plan.specs.Verdicts.{led_to, IsLed};
 
-use crate::names::read_old;
+use crate::names::read;
 use crate::place::Place;
 use crate::plan::{Plan, answer};
-use crate::puts::{write_birth, write_rows};
-use crate::saw::{Seen, saw};
-use mt_chain::{Found, Refusal, StoreAsk, StoreReply, Tags};
+use crate::puts::write;
+use crate::saw::{Lead, Seen, lead_of_new, lead_of_old, see};
+use mt_chain::{Refusal, Side, StoreAsk, StoreReply, Tags};
 use mt_model::NoMemory;
 use mt_rules::Batch;
 use std::alloc::Global;
@@ -82,10 +83,7 @@ impl BatchCall {
     pub fn is_write(&self) -> bool
         ensures { result ≡ is_write self.now.place }
     {
-        match self.place {
-            Place::ReadOld => false,
-            Place::WriteOld { .. } | Place::BirthOld => true,
-        }
+        matches!(self.place, Place::Write { .. })
     }
 
     /// The next store call: a read of the marker and of the rows that the operations name, with rising
@@ -96,16 +94,16 @@ impl BatchCall {
         ensures can { IfOk result (λ a. CanAsk a.ask) }
     {
         match &self.place {
-            Place::ReadOld => read_old(alloc, &self.batch),
-            Place::WriteOld { rows } => write_rows(alloc, &self.batch, &self.plan.order, rows),
-            Place::BirthOld => write_birth(alloc, &self.batch, &self.plan.order),
+            Place::ReadOld => read(alloc, &self.batch, Side::Old),
+            Place::ReadNew { .. } => read(alloc, &self.batch, Side::New),
+            Place::Write { basis } => write(alloc, &self.batch, &self.plan.order, basis),
         }
     }
 
     /// Takes the store's reply, of the kind that it gives to the call that was asked.
     ///
-    /// A read may take memory, and its want is the one error: then the call stays where it was. A reply
-    /// to a write takes no memory. After `Written` and `Refused` the call is at its beginning.
+    /// A read may take memory, and its want is the one error. A reply to a write takes no memory. After
+    /// an error, `Written` and `Refused` the call is at its beginning.
     pub fn absorb(&mut self, alloc: Global, reply: StoreReply) -> Result<BatchProgress, NoMemory>
         requires fits { (a : StoreAsk) × Asks self.old.batch self.old.place a × FitsAsk a.ask reply }
         ensures batch { self.new.batch ≡ self.old.batch }
@@ -113,8 +111,11 @@ impl BatchCall {
     {
         let place = mem::replace(&mut self.place, Place::ReadOld);
         match (place, reply) {
-            (Place::ReadOld, StoreReply::Found(found)) => self.see(alloc, found),
-            (Place::WriteOld { .. } | Place::BirthOld, StoreReply::Applied(given)) => {
+            (Place::ReadOld, StoreReply::Found(found)) => self.follow(alloc, lead_of_old(found)),
+            (Place::ReadNew { after }, StoreReply::Found(found)) => {
+                self.follow(alloc, lead_of_new(after, found))
+            }
+            (Place::Write { .. }, StoreReply::Applied(given)) => {
                 let tags = mem::replace(&mut self.plan.tags, Vec::new(alloc));
                 let tags = answer(self.batch.ops(), &self.plan.order, given.as_slice(), tags);
                 Ok(BatchProgress::Written(tags))
@@ -123,17 +124,22 @@ impl BatchCall {
         }
     }
 
-    /// Takes the rows that were read. On want of memory the call stays at its beginning.
-    fn see(&mut self, alloc: Global, found: Found) -> Result<BatchProgress, NoMemory>
-        requires { self.old.place ≡ Place.ReadOld }
+    /// Goes where the rows that were read lead. For want of memory the call stays at its beginning.
+    fn follow(&mut self, alloc: Global, lead: Lead) -> Result<BatchProgress, NoMemory>
+        requires place { self.old.place ≡ Place.ReadOld }
+        requires marked { IsLed lead }
         ensures batch { self.new.batch ≡ self.old.batch }
-        ensures moves { Reads self.old.batch found result self.new.place }
+        ensures moves { Reads (led_to self.old.batch lead) result self.new.place }
     {
-        match saw(alloc, self.batch.ops(), found)? {
+        match see(alloc, self.batch.ops(), lead)? {
             Seen::Again => Ok(BatchProgress::More),
             Seen::Refused(refusal) => Ok(BatchProgress::Refused(refusal)),
-            Seen::Write { place, plan } => {
-                self.place = place;
+            Seen::Read(after) => {
+                self.place = Place::ReadNew { after };
+                Ok(BatchProgress::More)
+            }
+            Seen::Write { basis, plan } => {
+                self.place = Place::Write { basis };
                 self.plan = plan;
                 Ok(BatchProgress::More)
             }

@@ -1,6 +1,7 @@
 //! A batch of operations as store calls: first a read of the rows that it names, then one conditional write.
 #![tactic(auto)]
 
+mod basis;
 mod call;
 mod judge;
 mod names;
@@ -11,5 +12,6 @@ mod saw;
 #[cfg(test)]
 mod tests;
 
+pub use basis::Basis;
 pub use call::{BatchCall, BatchProgress};
-pub use place::Place;
+pub use place::{AfterOld, Place};

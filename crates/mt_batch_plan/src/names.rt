@@ -1,12 +1,11 @@
 //! The read of a batch: the marker's row, and the rows that its operations name.
-ghost use Rattle.std.specs.Prelude.{◌≡◌, ◌≤◌, ◌∷◌, [], IfOk, IsPermutation, map, length};
+ghost use Rattle.std.specs.Prelude.{◌≡◌, ℕ, List, ◌≤◌, ◌∷◌, [], IfOk, IsPermutation, map, length};
 ghost use Rattle.std.specs.List.Sorted.{IsSortedBy};
 ghost use Rattle.mt_meta.specs.Markers.{marker_key};
 ghost use Rattle.mt_chain.specs.Effect.{op_key};
 ghost use Rattle.mt_chain.specs.Asks.{CanAsk};
-ghost use Rattle.mt_rules.specs.Batches.{IsBatch};
-ghost use Rattle.mt_batch_plan.specs.Calls.{AreNames, Asks};
-ghost use Rattle.mt_batch_plan.specs.declared.place.Place.TheVariants.{ReadOld};
+ghost use Rattle.mt_rules.specs.Batches.{IsBatch, partition_of};
+ghost use Rattle.mt_batch_plan.specs.Calls.{AreNames, reads};
 ghost use Rattle.mt_batch_plan.specs.Plans.{is_below};
 
 use mt_chain::{Ask, Op, RangeQuery, Side, StoreAsk};
@@ -45,9 +44,9 @@ fn names_of(alloc: Global, ops: &[Op]) -> Result<Texts, NoMemory>
     Ok(Texts::of(names))
 }
 
-/// The read of a batch in the old store. The one error is want of memory.
-pub(crate) fn read_old(alloc: Global, batch: &Batch) -> Result<StoreAsk, NoMemory>
-    ensures asks { IfOk result (Asks batch.now ReadOld) }
+/// The read of a batch in one of the stores. The one error is want of memory.
+pub(crate) fn read(alloc: Global, batch: &Batch, side: Side) -> Result<StoreAsk, NoMemory>
+    ensures asks { IfOk result (λ a. (names : List (List ℕ)) × AreNames batch.now names × (a ≡ reads side (partition_of batch.now) names)) }
     ensures can { IfOk result (λ a. CanAsk a.ask) }
 {
     let named = names_of(alloc, batch.ops())?;
@@ -58,7 +57,7 @@ pub(crate) fn read_old(alloc: Global, batch: &Batch) -> Result<StoreAsk, NoMemor
         range: None,
     };
     Ok(StoreAsk {
-        side: Side::Old,
+        side,
         ask: Ask::Query(query),
     })
 }

@@ -1,20 +1,21 @@
 //! What a batch call prepares with its read, so that it answers a write without memory.
-ghost use Rattle.std.specs.Prelude.{◌≡◌, ◌<◌, ◌≤◌, ◌+◌, None, IfOk, vec_len, IsPermutation, map, length, option_copied};
+ghost use Rattle.std.specs.Prelude.{◌≡◌, ◌<◌, ◌≤◌, ◌+◌, None, IfOk, vec_len, IsPermutation, map, length, option_map};
 ghost use Rattle.std.specs.List.{range_with_len};
 ghost use Rattle.std.specs.List.Sorted.{IsSortedBy};
 ghost use Rattle.std.specs.Ordering.{nat_cmp};
 ghost use Rattle.std.specs.Cmp.Lexicographic.{slice_cmp};
-ghost use Rattle.mt_chain.specs.Table.{Table, empty_table};
+ghost use Rattle.mt_chain.specs.Table.{Table};
 ghost use Rattle.mt_chain.specs.Effect.{op_key, told_tag, any_tag};
 ghost use Rattle.mt_chain.specs.Batch.{refusal_of};
 ghost use Rattle.mt_rules.specs.Batches.{IsBatch};
-ghost use Rattle.mt_batch_plan.specs.Calls.{AnswersTags, table_seen};
-ghost use Rattle.mt_batch_plan.specs.Plans.{IsOrder, IsPlan, as_seen, is_below, is_delete, filled, op_or};
+ghost use Rattle.mt_batch_plan.specs.Bases.{table_on};
+ghost use Rattle.mt_batch_plan.specs.Calls.{AnswersTags};
+ghost use Rattle.mt_batch_plan.specs.Plans.{IsOrder, IsPlan, sight_row, is_below, is_delete, filled, op_or};
 ghost use Rattle.mt_batch_plan.specs.Verdicts.{IsJudged};
 
-use crate::judge::{refusal_on, tag_seen};
-use crate::puts::{NO_TAG, no_rows};
-use mt_chain::{Op, Refusal, StoredRow, StoredRows, Tags};
+use crate::basis::{Basis, NO_TAG, Sight};
+use crate::judge::refusal_on;
+use mt_chain::{Op, Refusal, Tags};
 use mt_model::{NoMemory, Tag};
 use std::alloc::Global;
 use std::cmp::Ordering;
@@ -101,48 +102,39 @@ fn is_delete(op: &Op) -> bool
     matches!(op, Op::Delete { .. })
 }
 
-/// The tag that a delete is answered on that row, and no tag for other operations.
-fn tag_before(op: &Op, row: Option<&StoredRow>) -> Tag
-    ensures { result ≡ told_tag op.now (as_seen (option_copied row.entry)) any_tag }
+/// The tag that a delete is answered on what clients see, and no tag for other operations.
+fn tag_before(op: &Op, seen: Option<Sight<'_>>) -> Tag
+    ensures { result ≡ told_tag op.now (option_map sight_row seen.entry) any_tag }
 {
-    match op {
-        Op::Delete { .. } => tag_seen(row).unwrap_or(NO_TAG),
+    match (op, seen) {
+        (Op::Delete { .. }, Some(sight)) => sight.tag,
         _ => NO_TAG,
     }
 }
 
-/// The tags that deletes are answered on these rows, and no tag for other operations.
-fn tags_before(alloc: Global, ops: &[Op], rows: &StoredRows) -> Result<Vec<Tag>, NoMemory>
-    ensures { IfOk result (λ v. v.items ≡ map (λ op. told_tag op (table_seen rows.now (op_key op)) any_tag) ops.now) }
+/// The tags that deletes are answered on what clients see, and no tag for other operations.
+fn tags_before(alloc: Global, ops: &[Op], basis: &Basis) -> Result<Vec<Tag>, NoMemory>
+    ensures { IfOk result (λ v. v.items ≡ map (λ op. told_tag op (table_on basis.now (op_key op)) any_tag) ops.now) }
 {
     let mut tags = Vec::with_capacity(alloc, ops.len())?;
     for op in ops {
-        let row = rows.get(op.key().rk.as_str());
-        tags.push(tag_before(op, row))?;
+        let seen = basis.sight(op.key().rk.as_str());
+        tags.push(tag_before(op, seen))?;
     }
     Ok(tags)
 }
 
-/// Judges a batch on rows as clients see them, and prepares its answer where none refuses.
-pub(crate) fn judged(alloc: Global, ops: &[Op], rows: &StoredRows) -> Result<Verdict, NoMemory>
+/// Judges a batch on what clients see, and prepares its answer where none refuses.
+pub(crate) fn judged(alloc: Global, ops: &[Op], basis: &Basis) -> Result<Verdict, NoMemory>
     requires { IsBatch ops.now }
-    ensures { IfOk result (IsJudged ops.now (table_seen rows.now)) }
+    ensures { IfOk result (IsJudged ops.now (table_on basis.now)) }
 {
-    if let Some(refusal) = refusal_on(ops, rows) {
+    if let Some(refusal) = refusal_on(ops, basis) {
         return Ok(Verdict::Refused(refusal));
     }
     let order = order_of(alloc, ops)?;
-    let tags = tags_before(alloc, ops, rows)?;
+    let tags = tags_before(alloc, ops, basis)?;
     Ok(Verdict::Accepted(Plan { order, tags }))
-}
-
-/// The same where there is no partition.
-pub(crate) fn judged_on_none(alloc: Global, ops: &[Op]) -> Result<Verdict, NoMemory>
-    requires { IsBatch ops.now }
-    ensures { IfOk result (IsJudged ops.now empty_table) }
-{
-    let rows = no_rows(alloc);
-    judged(alloc, ops, &rows)
 }
 
 /// Fills in the tag of an operation that is no delete.

@@ -17,11 +17,12 @@ use Rattle.mt_history.specs.Weight.{total_weight}
 use Rattle.mt_history.specs.Window.{table_at_end}
 use Rattle.mt_history.specs.Replies.{Replies}
 use Rattle.mt_batch_plan.specs.declared.place.Place.{Place}
-use Rattle.mt_batch_plan.specs.declared.place.Place.TheVariants.{ReadOld, WriteOld, BirthOld}
+use Rattle.mt_batch_plan.specs.declared.place.Place.TheVariants.{ReadOld}
 use Rattle.mt_batch_plan.specs.declared.call.BatchProgress.{BatchProgress}
 use Rattle.mt_batch_plan.specs.declared.call.BatchProgress.TheVariants as batch
 use Rattle.mt_batch_plan.specs.Calls.{Call, Asks, Absorbs, is_write}
 use Rattle.mt_batch_plan.specs.Unmoved.{StandsOn}
+use Rattle.mt_batch_plan.proofs.ReplyLaws.{done_ends}
 use Rattle.mt_batch_plan.proofs.UnmovedLaws.{read_stands, write_done}
 use Rattle.mt_world.specs.declared.actor.ClientCall.TheVariants as client
 use Rattle.mt_world.specs.declared.actor.Actor.{Actor}
@@ -131,12 +132,7 @@ read_then w w' call entry a' world fits begin same g tells = subst (AtWrite w') 
   at_write : is_write g.to.place ≡ true
   at_write = (let x = told_is w'.old_store.told tells.old in let y = told_is w'.new_store.told tells.new in (step x.0 y.0 x.1 y.1).0)
 
--- a write that was done does not go on
-done_ends : (ops : List Op) (place to : Place) (r : StoreReply) → is_write place ≡ true → (given : List Tag) × (r ≡ reply.Applied given) → Absorbs ops place r (Ok batch.More) to → ⊥
-done_ends ops ReadOld to r e done h = absurd cc
-done_ends ops (WriteOld rows) to r e done h = subst (λ x. Absorbs ops (WriteOld rows) x (Ok batch.More) to) done.1 h
-done_ends ops BirthOld to r e done h = subst (λ x. Absorbs ops BirthOld x (Ok batch.More) to) done.1 h
-
+-- a write that stands is done, and does not go on
 write_ends : (w w' : WorldState) (call : Call) (entry : Option NewEntry) (a' : Actor) → IsWorld w → ActorFits (Client (client.Batch call)) → AtWrite w (Client (client.Batch call)) → GoesOn call w w' entry a' → Tells w' → ⊥
 write_ends w w' call entry a' world fits at g tells =
     let x = told_is w'.old_store.told tells.old in

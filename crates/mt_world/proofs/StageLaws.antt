@@ -20,7 +20,6 @@ use Rattle.mt_chain.specs.declared.query.RangeQuery.{RangeQuery}
 use Rattle.mt_chain.specs.StoreCall.{Contents}
 use Rattle.mt_chain.specs.Store.{Store, Onward, Same}
 use Rattle.mt_chain.specs.Asks.{Means}
-use Rattle.mt_rules.specs.Batches.{partition_of}
 use Rattle.mt_chain.specs.Table.{Table}
 use Rattle.mt_chain.specs.Batch.{batch_weight, tags_answered, refusal_of}
 use Rattle.mt_history.specs.declared.entry.What.TheVariants as what
@@ -33,10 +32,10 @@ use Rattle.mt_chain.specs.Rows.{row_in}
 use Rattle.mt_meta.specs.declared.marker.Phase.{Phase}
 use Rattle.mt_meta.specs.declared.marker.Phase.TheVariants.{UseOld, PreferOld, PreferNew}
 use Rattle.mt_batch_plan.specs.declared.place.Place.{Place}
-use Rattle.mt_batch_plan.specs.declared.place.Place.TheVariants.{ReadOld, WriteOld, BirthOld}
 use Rattle.mt_batch_plan.specs.declared.call.BatchProgress.{BatchProgress}
 use Rattle.mt_batch_plan.specs.declared.call.BatchProgress.TheVariants as batch
-use Rattle.mt_batch_plan.specs.Calls.{Call, CallFits, Asks, reads_old, Absorbs, AnswersTags, saw, saw_old, marker_says, decided, table_seen, is_write}
+use Rattle.mt_batch_plan.specs.Calls.{Call, CallFits, Asks, Absorbs, is_write}
+use Rattle.mt_batch_plan.proofs.ReplyLaws.{tags_at_write, memory_at_read}
 use Rattle.mt_world.specs.declared.actor.ClientCall.{ClientCall}
 use Rattle.mt_world.specs.declared.actor.ClientCall.TheVariants as client
 use Rattle.mt_world.specs.declared.actor.Actor.TheVariants.{Client}
@@ -54,56 +53,8 @@ use Rattle.mt_world.proofs.PairLaws.{stays_same}
 
 -- ---- tags come only of writes, one for each operation
 
-abbrev is_written : BatchProgress → Bool
-is_written batch.More = false
-is_written (batch.Written tags) = true
-is_written (batch.Refused refusal) = false
-
-unwritten_decided : (o : Option Refusal) (place : Place) → is_written (decided o place).1 ≡ false
-unwritten_decided None place = refl
-unwritten_decided (Some refusal) place = refl
-
-unwritten_says : (ops : List Op) (rows : List StoredRow) (o : Option Phase) → is_written (marker_says ops rows o).1 ≡ false
-unwritten_says ops rows (Some UseOld) = unwritten_decided (refusal_of ops (table_seen rows)) (WriteOld rows)
-unwritten_says ops rows (Some PreferOld) = unwritten_decided (refusal_of ops (table_seen rows)) (WriteOld rows)
-unwritten_says ops rows (Some PreferNew) = refl
-unwritten_says ops rows None = refl
-
-unwritten_old : (ops : List Op) (rows : List StoredRow) (o : Option StoredRow) (sealed : Bool) → is_written (saw_old ops rows o sealed).1 ≡ false
-unwritten_old ops rows (Some m) sealed = unwritten_says ops rows _
-unwritten_old ops rows None false = unwritten_decided (refusal_of ops _) BirthOld
-unwritten_old ops rows None true = refl
-
-unwritten : (ops : List Op) (found : Found) (to : Place) (tags : List Tag) → (to, batch.Written tags) ≡ saw ops found → ⊥
-unwritten ops found to tags e = (let x : true ≡ is_written (saw ops found).1 = ap (λ y. is_written y.1) e in let f : true ≡ false = x ∙ unwritten_old ops found.named (row_in found.named marker_key) found.sealed in cc)
-
-answered_length : (ops : List Op) (tags : List Tag) (table : Table) → length tags ≡ length ops → length (tags_answered ops tags table) ≡ length ops
-answered_length [] tags table same = refl
-answered_length (op ∷ ops) [] table same = absurd (omega arith)
-answered_length (op ∷ ops) (tag ∷ tags) table same = ap suc (answered_length ops tags table (omega arith))
-
-of_answer : (ops : List Op) (table : Table) (given tags : List Tag) → AnswersTags ops table given tags → length tags ≡ length ops
-of_answer ops table given tags h = ap length h.answer ∙ answered_length ops h.by_op table h.each.0
-
 pub written_at_write : (ops : List Op) (place to : Place) (r : StoreReply) (tags : List Tag) → Absorbs ops place r (Ok (batch.Written tags)) to → (is_write place ≡ true) × (length tags ≡ length ops)
-written_at_write ops ReadOld to (reply.Found found) tags h = absurd (unwritten ops found to tags h)
-written_at_write ops ReadOld to (reply.Applied given) tags h = absurd h
-written_at_write ops ReadOld to (reply.Next next) tags h = absurd h
-written_at_write ops ReadOld to reply.SealDone tags h = absurd h
-written_at_write ops ReadOld to (reply.Unmet i) tags h = absurd h
-written_at_write ops ReadOld to reply.SealedOff tags h = absurd h
-written_at_write ops (WriteOld rows) to (reply.Found found) tags h = absurd h
-written_at_write ops (WriteOld rows) to (reply.Applied given) tags h = (refl, of_answer ops (table_seen rows) given tags h.1)
-written_at_write ops (WriteOld rows) to (reply.Next next) tags h = absurd h
-written_at_write ops (WriteOld rows) to reply.SealDone tags h = absurd h
-written_at_write ops (WriteOld rows) to (reply.Unmet i) tags h = absurd h
-written_at_write ops (WriteOld rows) to reply.SealedOff tags h = absurd h
-written_at_write ops BirthOld to (reply.Found found) tags h = absurd h
-written_at_write ops BirthOld to (reply.Applied given) tags h = (refl, of_answer ops _ given tags h.1)
-written_at_write ops BirthOld to (reply.Next next) tags h = absurd h
-written_at_write ops BirthOld to reply.SealDone tags h = absurd h
-written_at_write ops BirthOld to (reply.Unmet i) tags h = absurd h
-written_at_write ops BirthOld to reply.SealedOff tags h = absurd h
+written_at_write ops place to r tags h = tags_at_write ops place to r tags h
 
 -- ---- room
 
@@ -218,46 +169,44 @@ pub same_faults : (s t : Store) → t ≡ s → t.faults ≡ s.faults
 same_faults s t e = ap (λ (x : Store). x.faults) e
 
 -- a read changed nothing
-read_in_vain : (c c' : Stage) (call : Call) (ask : StoreAsk) (names : List (List ℕ)) (found : Found) → Asks call.batch call.place ask → ask ≡ reads_old (partition_of call.batch) names → OneCall c ask (Ok (reply.Found found)) c' → CalledInVain c (Client (client.Batch call)) c'
-read_in_vain c c' call ask names found asks is one =
-    let on = subst (λ a. CallsOn a.side c.old_store c.new_store a.ask (Ok (reply.Found found)) c'.old_store c'.new_store) is one.on in
-    record {
-      ask = ask;
-      asks = asks;
-      answer = Ok (reply.Found found);
-      lost = tt;
-      call = one;
-      old_same = same_read _ found c.old_store.number c.old_store.told c'.old_store.told on.0.shows.2;
-      new_same = stays_same c.new_store c'.new_store on.1;
-      old_faults = on.0.faults;
-      new_faults = same_faults c.new_store c'.new_store on.1;
-    }
+read_in_vain : (c c' : Stage) (call : Call) (side : Side) (query : RangeQuery) (found : Found) → Asks call.batch call.place (record { side = side; ask = ask.Query query })
+    → OneCall c (record { side = side; ask = ask.Query query }) (Ok (reply.Found found)) c' → CalledInVain c (Client (client.Batch call)) c'
+read_in_vain c c' call Old query found asks one = record {
+  ask = record { side = Old; ask = ask.Query query };
+  asks = asks;
+  answer = Ok (reply.Found found);
+  lost = tt;
+  call = one;
+  old_same = same_read query found c.old_store.number c.old_store.told c'.old_store.told one.on.0.shows.2;
+  new_same = stays_same c.new_store c'.new_store one.on.1;
+  old_faults = one.on.0.faults;
+  new_faults = same_faults c.new_store c'.new_store one.on.1;
+}
+read_in_vain c c' call New query found asks one = record {
+  ask = record { side = New; ask = ask.Query query };
+  asks = asks;
+  answer = Ok (reply.Found found);
+  lost = tt;
+  call = one;
+  old_same = stays_same c.old_store c'.old_store one.on.1;
+  new_same = same_read query found c.new_store.number c.new_store.told c'.new_store.told one.on.0.shows.2;
+  old_faults = same_faults c.old_store c'.old_store one.on.1;
+  new_faults = one.on.0.faults;
+}
 
 -- want of memory comes only of a read
-in_vain : (c c' : Stage) (call : Call) (place : Place) (ask : StoreAsk) (answer : StoreReply) (none : NoMemoryOf) (to : Place) → call.place ≡ place → Asks call.batch place ask → OneCall c ask (Ok answer) c' → Absorbs call.batch place answer (Err none) to → CalledInVain c (Client (client.Batch call)) c'
-in_vain c c' call ReadOld ask (reply.Found found) none to is asks one h = read_in_vain c c' call ask asks.0 found (subst (λ p. Asks call.batch p ask) (sym is) asks) asks.2 one
-in_vain c c' call ReadOld ask (reply.Applied given) none to is asks one h = absurd h
-in_vain c c' call ReadOld ask (reply.Next next) none to is asks one h = absurd h
-in_vain c c' call ReadOld ask reply.SealDone none to is asks one h = absurd h
-in_vain c c' call ReadOld ask (reply.Unmet i) none to is asks one h = absurd h
-in_vain c c' call ReadOld ask reply.SealedOff none to is asks one h = absurd h
-in_vain c c' call (WriteOld rows) ask (reply.Found found) none to is asks one h = absurd h
-in_vain c c' call (WriteOld rows) ask (reply.Applied given) none to is asks one h = absurd h
-in_vain c c' call (WriteOld rows) ask (reply.Next next) none to is asks one h = absurd h
-in_vain c c' call (WriteOld rows) ask reply.SealDone none to is asks one h = absurd h
-in_vain c c' call (WriteOld rows) ask (reply.Unmet i) none to is asks one h = absurd h
-in_vain c c' call (WriteOld rows) ask reply.SealedOff none to is asks one h = absurd h
-in_vain c c' call BirthOld ask (reply.Found found) none to is asks one h = absurd h
-in_vain c c' call BirthOld ask (reply.Applied given) none to is asks one h = absurd h
-in_vain c c' call BirthOld ask (reply.Next next) none to is asks one h = absurd h
-in_vain c c' call BirthOld ask reply.SealDone none to is asks one h = absurd h
-in_vain c c' call BirthOld ask (reply.Unmet i) none to is asks one h = absurd h
-in_vain c c' call BirthOld ask reply.SealedOff none to is asks one h = absurd h
+in_vain : (c c' : Stage) (call : Call) (a : StoreAsk) (answer : StoreReply) (none : NoMemoryOf) (to : Place) → Asks call.batch call.place a → OneCall c a (Ok answer) c' → Absorbs call.batch call.place answer (Err none) to → CalledInVain c (Client (client.Batch call)) c'
+in_vain c c' call a answer none to asks one h =
+    let read = memory_at_read call.batch call.place to a answer none asks h in
+    let same = read.asks in
+    let is : a ≡ record { side = a.side; ask = ask.Query read.query } = (λ i. record { side = a.side; ask = same i }) in
+    read_in_vain c c' call a.side read.query read.found (subst (Asks call.batch call.place) is asks)
+    (subst (λ r. OneCall c (record { side = a.side; ask = ask.Query read.query }) (Ok r) c') read.replies (subst (λ x. OneCall c x (Ok answer) c') is one))
 
 -- how the actor moves with a reply
 answer_moves : (c c' : Stage) (call : Call) (ask : StoreAsk) (answer : StoreReply) (r : Result (Progress × ClientCall) TurnFault) (entry : Option NewEntry) → Asks call.batch call.place ask → OneCall c ask (Ok answer) c' → GoesOn call answer r entry → Moves c (Client (client.Batch call)) (said_by r) entry c' (left_by r)
 answer_moves c c' call ask answer (Ok step) entry asks one goes = (ask, answer, asks, one, goes)
-answer_moves c c' call ask answer (Err NoMemory) entry asks one goes = (inr (in_vain c c' call call.place ask answer goes.0 goes.1 refl asks one goes.2), goes.3, refl)
+answer_moves c c' call ask answer (Err NoMemory) entry asks one goes = (inr (in_vain c c' call ask answer goes.0 goes.1 asks one goes.2), goes.3, refl)
 answer_moves c c' call ask answer (Err StoreFault) entry asks one goes = absurd goes
 answer_moves c c' call ask answer (Err HistoryFull) entry asks one goes = absurd goes
 

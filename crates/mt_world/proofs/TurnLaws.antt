@@ -28,7 +28,6 @@ use Rattle.mt_meta.specs.Facts.{Holds, ApartFrom}
 use Rattle.mt_meta.specs.Steps.{logical_table, AllHold, IsEmptied, ActorStep, PairMeans}
 use Rattle.mt_meta.proofs.Growth.{grows_self, fact_kept}
 use Rattle.mt_meta.proofs.Actors.{others_kept}
-use Rattle.mt_rules.specs.Batches.{partition_of}
 use Rattle.mt_batch_plan.specs.declared.call.BatchProgress.{BatchProgress}
 use Rattle.mt_batch_plan.specs.declared.call.BatchProgress.TheVariants as batch
 use Rattle.mt_batch_plan.specs.Calls.{Call, CallFits, Asks, Absorbs, place_facts, call_facts}
@@ -59,13 +58,13 @@ batch_does to (batch.Written tags) p q does = (does, refl)
 batch_does to (batch.Refused refusal) p q does = ((λ key. ap (λ x. logical_table x key) does.0, subst IsSome (sym does.1) refl), ap refusal_reply (sym does.1))
 
 -- what it knows afterwards, and that others' facts are apart from that
-batch_knows : (said : BatchProgress) (call to : Call) (q : Pair) (retired : Bool) → to.batch ≡ call.batch → AllHold q retired (place_facts (partition_of call.batch) to.place) → AllHold q retired (actor_facts (batch_move to said).after)
-batch_knows batch.More call to q retired same knows = subst (λ ops. AllHold q retired (place_facts (partition_of ops) to.place)) (sym same) knows
+batch_knows : (said : BatchProgress) (call to : Call) (q : Pair) (retired : Bool) → to.batch ≡ call.batch → AllHold q retired (place_facts call.batch to.place) → AllHold q retired (actor_facts (batch_move to said).after)
+batch_knows batch.More call to q retired same knows = subst (λ ops. AllHold q retired (place_facts ops to.place)) (sym same) knows
 batch_knows (batch.Written tags) call to q retired same knows = tt
 batch_knows (batch.Refused refusal) call to q retired same knows = tt
 
-batch_apart : (said : BatchProgress) (call to : Call) (f : Fact) → to.batch ≡ call.batch → ApartFrom f (place_facts (partition_of call.batch) to.place) → ApartFrom f (actor_facts (batch_move to said).after)
-batch_apart batch.More call to f same apart = subst (λ ops. ApartFrom f (place_facts (partition_of ops) to.place)) (sym same) apart
+batch_apart : (said : BatchProgress) (call to : Call) (f : Fact) → to.batch ≡ call.batch → ApartFrom f (place_facts call.batch to.place) → ApartFrom f (actor_facts (batch_move to said).after)
+batch_apart batch.More call to f same apart = subst (λ ops. ApartFrom f (place_facts ops to.place)) (sym same) apart
 batch_apart (batch.Written tags) call to f same apart = tt
 batch_apart (batch.Refused refusal) call to f same apart = tt
 
@@ -76,7 +75,7 @@ ActorSteps a retired move p q = ActorStep (actor_facts a) (actor_facts move.afte
 batch_step : (call : Call) (ask : StoreAsk) (answer : StoreReply) (move : Move) (p q : Pair) (retired : Bool) → CallFits call → Asks call.batch call.place ask → PairMeans ask answer p q → BatchMoves call answer move
     → IsSound p → AllHold p retired (call_facts call) → ActorSteps (Client (client.Batch call)) retired move p q
 batch_step call ask answer move p q retired fits asks means moves sound knows = subst (λ m. ActorSteps (Client (client.Batch call)) retired m p q) (sym moves.is) by where
-  s : ActorStep (place_facts (partition_of call.batch) call.place) (place_facts (partition_of call.batch) moves.to.place) retired retired (Does call.batch moves.said) p q
+  s : ActorStep (place_facts call.batch call.place) (place_facts call.batch moves.to.place) retired retired (Does call.batch moves.said) p q
   s = batch_law call.batch call.place moves.to.place ask answer moves.said p q retired fits.batch fits.place sound knows asks means moves.absorbs
 
   by : ActorSteps (Client (client.Batch call)) retired (batch_move moves.to moves.said) p q
