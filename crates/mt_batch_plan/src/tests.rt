@@ -2,54 +2,87 @@ ghost use Rattle.std.specs.Prelude.{◌≡◌, None, false, All, IfOk};
 ghost use Rattle.std.specs.List.{list_any};
 ghost use Rattle.mt_model.specs.Key.{key_fault};
 ghost use Rattle.mt_model.specs.Name.{is_hidden};
+ghost use Rattle.mt_chain.specs.Asks.{CanAsk, FitsAsk};
 ghost use Rattle.mt_chain.specs.Puts.{CanApply};
 ghost use Rattle.mt_rules.specs.Batches.{MayAsk};
 
 use crate::{BatchCall, BatchProgress};
-use mt_chain::{Ask, Cond, Keeper, Op, Put, Puts, StoreAsk};
+use mt_chain::{Ask, Cause, Cond, Keeper, Op, Put, Puts, Refusal, Side, StoreAsk, StoreReply};
 use mt_mem::MemKeeper;
-use mt_meta::MARKER_KEY;
-use mt_model::{Hidden, Key, Name, Prop, Props, Tag, Text, Value};
+use mt_meta::{MARKER_KEY, Mark, NewPhase, Phase, new_marker, old_marker, stored};
+use mt_model::{Hidden, Key, Name, Prop, Props, Tag, Text, Texts, Value};
 use mt_rules::{Batch, check_batch};
 use std::alloc::Global;
 use std::test::Fail;
 
-/// A kind of operation.
+/// The tag of old's row `r` in the scenes.
+const SEEN: Tag = Tag { store: 0, n: 2 };
+
+/// Another tag.
+const OTHER: Tag = Tag { store: 1, n: 2 };
+
+/// A kind of operation, each with the property `B`.
 #[derive(Clone, Copy)]
 enum Do {
     Insert,
-    Replace,
-    Merge,
-    Delete,
+    Replace(Cond),
+    Merge(Cond),
+    Delete(Cond),
     InsertOrReplace,
     InsertOrMerge,
 }
 
-/// An operation on the row of that key in the partition `p`, under a condition on the number of its tag:
-/// 0 stands for any.
-type Sample = (Do, &'static str, u64);
+/// An operation on the row of that key in the partition `p`.
+type Sample = (&'static str, Do);
 
-/// A row that is in the store before the call: a marker of that kind, or one with the property `A`.
+/// How a store came to be: each of these puts gets the next tag.
 #[derive(Clone, Copy)]
 enum Row {
-    Marker(&'static str),
+    Old(Phase),
+    New(NewPhase),
+
+    /// A row with the property `A`.
     Data(&'static str),
+
+    /// The same with a mark.
+    Kept(&'static str, Mark),
+
+    /// The marker of this tag turns to new.
+    Turn(u64),
 }
 
-/// What another actor does between the read and the write.
+/// A put of a batch: what `$kind` says, how many properties there are, and the number of the tag.
 #[derive(Clone, Copy)]
-enum Between {
-    Nothing,
-    Replace(&'static str, u64),
+enum Did {
+    Check(u64),
+    Insert(&'static str, usize),
+    Replace(&'static str, usize, u64),
+    Delete(u64),
+}
+
+/// What happens in a scene.
+#[derive(Clone, Copy)]
+enum Act<'a> {
+    /// A client asks for a batch.
+    Call(&'a [Sample]),
+
+    /// Its call reads the store, and goes on.
+    Reads(Side),
+
+    /// It reads the store, and is refused.
+    Refused(Side, u32, Cause),
+
+    /// It makes these puts, and is answered these tags.
+    Writes(Side, &'a [(&'static str, Did)], &'a [(u32, u64)]),
+
+    /// It asks for so many puts, in vain.
+    Races(Side, usize),
+
+    /// Another actor replaces a row of that tag.
+    Replace(Side, &'static str, u64),
+
+    /// Old is sealed.
     Seal,
-}
-
-fn tag(n: u64) -> Tag {
-    Tag { store: 0, n }
-}
-
-fn cond(n: u64) -> Cond {
-    if n == 0 { Cond::Any } else { Cond::Is(tag(n)) }
 }
 
 /// One property of that name.
@@ -79,15 +112,14 @@ fn key(alloc: Global, rk: &str) -> Result<Key, Fail>
 fn op_of(alloc: Global, sample: Sample) -> Result<Op, Fail>
     ensures { IfOk result MayAsk }
 {
-    let (kind, rk, n) = sample;
+    let (rk, kind) = sample;
     let key = key(alloc, rk)?;
     let props = brought(alloc)?;
-    let cond = cond(n);
     Ok(match kind {
         Do::Insert => Op::Insert { key, props },
-        Do::Replace => Op::Replace { key, props, cond },
-        Do::Merge => Op::Merge { key, props, cond },
-        Do::Delete => Op::Delete { key, cond },
+        Do::Replace(cond) => Op::Replace { key, props, cond },
+        Do::Merge(cond) => Op::Merge { key, props, cond },
+        Do::Delete(cond) => Op::Delete { key, cond },
         Do::InsertOrReplace => Op::InsertOrReplace { key, props },
         Do::InsertOrMerge => Op::InsertOrMerge { key, props },
     })
@@ -119,7 +151,7 @@ fn single(alloc: Global, put: Put) -> Result<Puts, Fail>
     Ok(Puts::of(list))
 }
 
-fn put(alloc: Global, keeper: &mut MemKeeper, put: Put) -> Result<(), Fail> {
+fn make(alloc: Global, keeper: &mut MemKeeper, put: Put) -> Result<(), Fail> {
     let pk = Text::of(alloc, "p")?;
     let puts = single(alloc, put)?;
     match keeper.apply(alloc, &pk, &puts) {
@@ -128,304 +160,477 @@ fn put(alloc: Global, keeper: &mut MemKeeper, put: Put) -> Result<(), Fail> {
     }
 }
 
-fn row_put(alloc: Global, row: Row) -> Result<Put, Fail> {
+fn kept(alloc: Global, mark: Mark) -> Result<Props, Fail> {
+    let props = one(alloc, "A")?;
+    Ok(stored(alloc, mark, &props)?)
+}
+
+fn props_of(alloc: Global, row: Row) -> Result<Props, Fail> {
     match row {
-        Row::Marker(kind) => {
-            let mut props = Props::build(alloc, Vec::new(alloc))?;
-            props.add_hidden(alloc, Hidden::Kind, kind)?;
-            let rk = Text::of(alloc, MARKER_KEY)?;
-            Ok(Put::Insert { rk, props })
-        }
-        Row::Data(rk) => {
-            let props = one(alloc, "A")?;
-            let rk = Text::of(alloc, rk)?;
-            Ok(Put::Insert { rk, props })
-        }
+        Row::Old(phase) => Ok(old_marker(alloc, phase)?),
+        Row::New(phase) => Ok(new_marker(alloc, phase)?),
+        Row::Data(_) => one(alloc, "A"),
+        Row::Kept(_, mark) => kept(alloc, mark),
+        Row::Turn(_) => Ok(old_marker(alloc, Phase::PreferNew)?),
     }
 }
 
-/// A store of these rows, which have the tags 1, 2 and so on.
-fn store_of(alloc: Global, rows: &[Row]) -> Result<MemKeeper, Fail> {
-    let mut keeper = MemKeeper::new(alloc, 0, Vec::new(alloc));
+fn rk_of(row: Row) -> &'static str {
+    match row {
+        Row::Old(_) | Row::New(_) | Row::Turn(_) => MARKER_KEY,
+        Row::Data(rk) | Row::Kept(rk, _) => rk,
+    }
+}
+
+fn put_of(alloc: Global, store: u32, row: Row) -> Result<Put, Fail> {
+    let rk = Text::of(alloc, rk_of(row))?;
+    let props = props_of(alloc, row)?;
+    Ok(match row {
+        Row::Turn(n) => Put::Replace {
+            rk,
+            props,
+            tag: Tag { store, n },
+        },
+        _ => Put::Insert { rk, props },
+    })
+}
+
+/// A store of that number that came to be so.
+fn store_of(alloc: Global, store: u32, rows: &[Row]) -> Result<MemKeeper, Fail> {
+    let mut keeper = MemKeeper::new(alloc, store, Vec::new(alloc));
     for row in rows {
-        let insert = row_put(alloc, *row)?;
-        put(alloc, &mut keeper, insert)?;
+        make(alloc, &mut keeper, put_of(alloc, store, *row)?)?;
     }
     Ok(keeper)
 }
 
-/// What another actor does.
-fn disturb(alloc: Global, keeper: &mut MemKeeper, between: Between) -> Result<(), Fail> {
-    match between {
-        Between::Nothing => Ok(()),
-        Between::Replace(rk, n) => {
-            let rk = Text::of(alloc, rk)?;
-            let props = one(alloc, "C")?;
-            let tag = tag(n);
-            put(alloc, keeper, Put::Replace { rk, props, tag })
-        }
-        Between::Seal => match keeper.seal(alloc) {
-            Ok(()) => Ok(()),
-            Err(_) => Err(Fail::new("no seal")),
-        },
+fn kind_of(props: &Props) -> &str {
+    match props.hidden(Hidden::Kind) {
+        Some(kind) => kind.as_str(),
+        None => "",
     }
 }
 
-/// The row key, where the marker's is shown as `^`.
-fn shown(rk: &Text) -> &str {
-    if rk.as_str() == MARKER_KEY {
-        "^"
-    } else {
-        rk.as_str()
+fn is_so(rk: &Text, props: &Props, want: &str, kind: &str, count: usize) -> bool {
+    rk.as_str() == want && kind_of(props) == kind && props.as_slice().len() == count
+}
+
+fn is_put(put: &Put, want: (&str, Did)) -> bool {
+    let (at, did) = want;
+    match (put, did) {
+        (Put::Check { rk, tag }, Did::Check(n)) | (Put::Delete { rk, tag }, Did::Delete(n)) => {
+            rk.as_str() == at && tag.n == n
+        }
+        (Put::Insert { rk, props }, Did::Insert(kind, count)) => is_so(rk, props, at, kind, count),
+        (Put::Replace { rk, props, tag }, Did::Replace(kind, count, n)) => {
+            is_so(rk, props, at, kind, count) && tag.n == n
+        }
+        _ => false,
     }
 }
 
-/// A put: its key, `?` for a check, `+` for an insert, `=` for a replace and `-` for a delete, the number
-/// of properties, and `@` with the number of the tag.
-fn put_text(alloc: Global, put: &Put) -> Result<String, Fail> {
-    match put {
-        Put::Check { rk, tag } => {
-            let (rk, n) = (shown(rk), tag.n);
-            Ok(format!(in alloc; "{rk}?@{n} ")?)
+fn are_puts(puts: &[Put], want: &[(&str, Did)]) -> bool {
+    if puts.len() != want.len() {
+        return false;
+    }
+    for (at, put) in puts.iter().enumerate() {
+        if !is_put(put, want[at]) {
+            return false;
         }
-        Put::Insert { rk, props } => {
-            let (rk, count) = (shown(rk), props.as_slice().len());
-            Ok(format!(in alloc; "{rk}+{count} ")?)
+    }
+    true
+}
+
+fn are_tags(tags: &[Tag], want: &[(u32, u64)]) -> bool {
+    if tags.len() != want.len() {
+        return false;
+    }
+    for (at, tag) in tags.iter().enumerate() {
+        if (tag.store, tag.n) != want[at] {
+            return false;
         }
-        Put::Replace { rk, props, tag } => {
-            let (rk, count, n) = (shown(rk), props.as_slice().len(), tag.n);
-            Ok(format!(in alloc; "{rk}={count}@{n} ")?)
+    }
+    true
+}
+
+/// A read names the marker, among the rows of the batch.
+fn names_marker(names: &Texts) -> bool {
+    for name in names.as_slice() {
+        if name.as_str() == MARKER_KEY {
+            return true;
         }
-        Put::Delete { rk, tag } => {
-            let (rk, n) = (shown(rk), tag.n);
-            Ok(format!(in alloc; "{rk}-@{n} ")?)
+    }
+    false
+}
+
+/// The call asks for what the scene says.
+fn is_asked(ask: &StoreAsk, act: Act<'_>) -> bool {
+    match (&ask.ask, act) {
+        (Ask::Query(query), Act::Reads(side) | Act::Refused(side, ..)) => {
+            ask.side == side && names_marker(&query.named)
         }
+        (Ask::Apply { puts, .. }, Act::Writes(side, want, _)) => {
+            ask.side == side && are_puts(puts.as_slice(), want)
+        }
+        (Ask::Apply { puts, .. }, Act::Races(side, count)) => {
+            ask.side == side && puts.as_slice().len() == count
+        }
+        _ => false,
     }
 }
 
-/// The names that are read, or the puts.
-fn ask_text(alloc: Global, ask: &StoreAsk) -> Result<String, Fail> {
-    let mut text = String::new(alloc);
-    match &ask.ask {
-        Ask::Query(query) => {
-            for rk in query.named.as_slice() {
-                let rk = shown(rk);
-                text.push_str(format!(in alloc; "{rk} ")?.as_str())?;
-            }
+/// The call comes to what the scene says.
+fn has_come(progress: &BatchProgress, act: Act<'_>) -> bool {
+    match (progress, act) {
+        (BatchProgress::More, Act::Reads(_) | Act::Races(..)) => true,
+        (BatchProgress::Refused(refusal), Act::Refused(_, index, cause)) => {
+            *refusal == Refusal { index, cause }
         }
-        Ask::Apply { puts, .. } => {
-            for put in puts.as_slice() {
-                text.push_str(put_text(alloc, put)?.as_str())?;
-            }
+        (BatchProgress::Written(tags), Act::Writes(_, _, want)) => {
+            are_tags(tags.as_slice(), want)
         }
-        _ => {}
+        _ => false,
     }
-    Ok(text)
 }
 
-fn progress_text(alloc: Global, progress: &BatchProgress) -> Result<String, Fail> {
-    let mut text = String::new(alloc);
-    match progress {
-        BatchProgress::More => text.push_str("more")?,
-        BatchProgress::Written(tags) => {
-            for tag in tags.as_slice() {
-                let n = tag.n;
-                text.push_str(format!(in alloc; "@{n} ")?.as_str())?;
-            }
-        }
-        BatchProgress::Refused(refusal) => {
-            let refusal = *refusal;
-            text.push_str(format!(in alloc; "{refusal:?}")?.as_str())?;
-        }
+fn reply_to(
+    alloc: Global,
+    ask: &StoreAsk,
+    old: &mut MemKeeper,
+    new: &mut MemKeeper,
+) -> Result<StoreReply, Fail>
+    requires { CanAsk ask.now.ask }
+    ensures { IfOk result (FitsAsk ask.now.ask) }
+{
+    let reply = match ask.side {
+        Side::Old => ask.ask.call(alloc, old),
+        Side::New => ask.ask.call(alloc, new),
+    };
+    match reply {
+        Ok(reply) => Ok(reply),
+        Err(_) => Err(Fail::new("the store failed")),
     }
-    Ok(text)
 }
 
-/// One step of a call: what it asks, what it comes to, and whether a write is next.
+/// One step of a call, which is as the scene says, or not.
 fn step(
     alloc: Global,
     call: &mut BatchCall,
-    keeper: &mut MemKeeper,
-) -> Result<(String, String, bool), Fail> {
+    old: &mut MemKeeper,
+    new: &mut MemKeeper,
+    act: Act<'_>,
+) -> Result<bool, Fail> {
     let ask = call.next(alloc)?;
-    let asked = ask_text(alloc, &ask)?;
-    let Ok(reply) = ask.ask.call(alloc, keeper) else {
-        return Err(Fail::new("the store failed"));
-    };
+    let asked = is_asked(&ask, act);
+    let reply = reply_to(alloc, &ask, old, new)?;
     let progress = call.absorb(alloc, reply)?;
-    let came = progress_text(alloc, &progress)?;
-    Ok((asked, came, call.is_write()))
+    Ok(asked && has_come(&progress, act))
 }
 
-/// What a call of these operations asks and comes to, up to its write or to where it begins again.
-fn run(
+fn replace(alloc: Global, keeper: &mut MemKeeper, rk: &str, tag: Tag) -> Result<bool, Fail> {
+    let rk = Text::of(alloc, rk)?;
+    let props = one(alloc, "C")?;
+    make(alloc, keeper, Put::Replace { rk, props, tag })?;
+    Ok(true)
+}
+
+fn happens(
     alloc: Global,
-    rows: &[Row],
-    samples: &[Sample],
-    before: Between,
-    between: Between,
-) -> Result<String, Fail> {
-    let mut keeper = store_of(alloc, rows)?;
-    disturb(alloc, &mut keeper, before)?;
-    let mut call = BatchCall::new(alloc, batch(alloc, samples)?);
-    let (asked, came, writes) = step(alloc, &mut call, &mut keeper)?;
-    if !writes {
-        return Ok(format!(in alloc; "{asked}: {came}")?);
+    call: &mut BatchCall,
+    old: &mut MemKeeper,
+    new: &mut MemKeeper,
+    act: Act<'_>,
+) -> Result<bool, Fail> {
+    match act {
+        Act::Call(samples) => {
+            *call = BatchCall::new(alloc, batch(alloc, samples)?);
+            Ok(true)
+        }
+        Act::Replace(Side::Old, rk, n) => replace(alloc, old, rk, Tag { store: 0, n }),
+        Act::Replace(Side::New, rk, n) => replace(alloc, new, rk, Tag { store: 1, n }),
+        Act::Seal => Ok(old.seal(alloc).is_ok()),
+        act => step(alloc, call, old, new, act),
     }
-    disturb(alloc, &mut keeper, between)?;
-    let (puts, written, writes) = step(alloc, &mut call, &mut keeper)?;
-    Ok(format!(in alloc; "{asked}: {came}; {puts}: {written} {writes}")?)
 }
 
+/// Plays a scene, which has to be as it says; else the index of the first act that is not is the fault.
+fn play(alloc: Global, old: &[Row], new: &[Row], script: &[Act<'_>]) -> Result<(), Fail> {
+    let mut old = store_of(alloc, 0, old)?;
+    let mut new = store_of(alloc, 1, new)?;
+    let mut call = BatchCall::new(alloc, batch(alloc, &[("r", Do::Insert)])?);
+    for (at, act) in script.iter().enumerate() {
+        if !happens(alloc, &mut call, &mut old, &mut new, *act)? {
+            return Err(Fail::new(at));
+        }
+    }
+    Ok(())
+}
+
+/// Old's marker has turned, and the row `r` has the property `A` and the tag 2 in store 0.
+const TURNED: [Row; 3] = [Row::Old(Phase::UseOld), Row::Data("r"), Row::Turn(1)];
+
 #[test]
-fn bears_a_partition(rt: HostRuntime) -> Result<(), Fail> {
-    let alloc = rt.alloc();
-    let samples = [
-        (Do::Insert, "c", 0),
-        (Do::InsertOrMerge, "a", 0),
-        (Do::Insert, "b", 0),
+fn old_bears_a_partition(rt: HostRuntime) -> Result<(), Fail> {
+    let ops = [
+        ("c", Do::Insert),
+        ("", Do::InsertOrMerge),
+        ("b", Do::InsertOrReplace),
     ];
-    let got = run(alloc, &[], &samples, Between::Nothing, Between::Nothing)?;
-    let want = "^ a b c : more; ^+1 a+1 b+1 c+1 : @4 @2 @3  false";
-    assert!(rt; got.as_str() == want, "{got}");
-    Ok(())
+    let puts = [
+        (MARKER_KEY, Did::Insert("use-old", 1)),
+        ("", Did::Insert("", 1)),
+        ("b", Did::Insert("", 1)),
+        ("c", Did::Insert("", 1)),
+    ];
+    let script = [
+        Act::Call(&ops),
+        Act::Reads(Side::Old),
+        Act::Writes(Side::Old, &puts, &[(0, 4), (0, 2), (0, 3)]),
+    ];
+    play(rt.alloc(), &[], &[], &script)
 }
 
 #[test]
-fn sorts_the_empty_key_first(rt: HostRuntime) -> Result<(), Fail> {
-    let alloc = rt.alloc();
-    let samples = [(Do::Insert, "b", 0), (Do::Insert, "", 0)];
-    let got = run(alloc, &[], &samples, Between::Nothing, Between::Nothing)?;
-    let want = " ^ b : more; ^+1 +1 b+1 : @3 @2  false";
-    assert!(rt; got.as_str() == want, "{got}");
-    Ok(())
-}
-
-#[test]
-fn writes_under_a_check(rt: HostRuntime) -> Result<(), Fail> {
-    let alloc = rt.alloc();
-    for (kind, samples, want) in [
-        (
-            "use-old",
-            [
-                (Do::Replace, "b", 0),
-                (Do::Delete, "a", 0),
-                (Do::Insert, "c", 0),
-            ],
-            "^ a b c : more; ^?@1 a-@2 b=1@3 c+1 : @4 @2 @5  false",
-        ),
-        (
-            "prefer-old",
-            [
-                (Do::Insert, "c", 0),
-                (Do::Merge, "b", 3),
-                (Do::InsertOrReplace, "a", 0),
-            ],
-            "^ a b c : more; ^?@1 a=1@2 b=2@3 c+1 : @6 @5 @4  false",
-        ),
-        (
-            "use-old",
-            [
-                (Do::Delete, "b", 3),
-                (Do::InsertOrMerge, "c", 0),
-                (Do::Delete, "a", 2),
-            ],
-            "^ a b c : more; ^?@1 a-@2 b-@3 c+1 : @3 @4 @2  false",
-        ),
-    ] {
-        let rows = [Row::Marker(kind), Row::Data("a"), Row::Data("b")];
-        let got = run(alloc, &rows, &samples, Between::Nothing, Between::Nothing)?;
-        assert!(rt; got.as_str() == want, "{got}");
+fn writes_old_under_a_check(rt: HostRuntime) -> Result<(), Fail> {
+    let ops = [
+        ("b", Do::Merge(Cond::Is(Tag { store: 0, n: 3 }))),
+        ("r", Do::Delete(Cond::Is(SEEN))),
+        ("c", Do::Insert),
+    ];
+    let puts = [
+        (MARKER_KEY, Did::Check(1)),
+        ("b", Did::Replace("", 2, 3)),
+        ("c", Did::Insert("", 1)),
+        ("r", Did::Delete(2)),
+    ];
+    let script = [
+        Act::Call(&ops),
+        Act::Reads(Side::Old),
+        Act::Writes(Side::Old, &puts, &[(0, 4), (0, 2), (0, 5)]),
+    ];
+    for phase in [Phase::UseOld, Phase::PreferOld] {
+        let old = [Row::Old(phase), Row::Data("r"), Row::Data("b")];
+        play(rt.alloc(), &old, &[], &script)?;
     }
     Ok(())
 }
 
 #[test]
 fn names_the_least_refusal(rt: HostRuntime) -> Result<(), Fail> {
-    let alloc = rt.alloc();
-    for (samples, want) in [
+    let old = [Row::Old(Phase::UseOld), Row::Data("r")];
+    for (ops, index, cause) in [
         (
             [
-                (Do::Insert, "c", 0),
-                (Do::Replace, "b", 9),
-                (Do::Insert, "a", 0),
+                ("a", Do::Insert),
+                ("r", Do::Replace(Cond::Is(OTHER))),
+                ("b", Do::Merge(Cond::Any)),
             ],
-            "^ a b c : Refusal { index: 1, cause: ConditionFailed }",
+            1,
+            Cause::ConditionFailed,
         ),
         (
             [
-                (Do::InsertOrReplace, "a", 0),
-                (Do::Merge, "d", 0),
-                (Do::Delete, "b", 2),
+                ("r", Do::InsertOrReplace),
+                ("a", Do::Delete(Cond::Any)),
+                ("b", Do::Merge(Cond::Any)),
             ],
-            "^ a b d : Refusal { index: 1, cause: NotFound }",
+            1,
+            Cause::NotFound,
         ),
         (
             [
-                (Do::Insert, "a", 0),
-                (Do::Delete, "b", 2),
-                (Do::Merge, "d", 0),
+                ("r", Do::Insert),
+                ("b", Do::Insert),
+                ("a", Do::Merge(Cond::Any)),
             ],
-            "^ a b d : Refusal { index: 0, cause: Exists }",
+            0,
+            Cause::Exists,
         ),
     ] {
-        let rows = [Row::Marker("use-old"), Row::Data("a"), Row::Data("b")];
-        let got = run(alloc, &rows, &samples, Between::Nothing, Between::Nothing)?;
-        assert!(rt; got.as_str() == want, "{got}");
+        let script = [Act::Call(&ops), Act::Refused(Side::Old, index, cause)];
+        play(rt.alloc(), &old, &[], &script)?;
     }
     Ok(())
 }
 
 #[test]
-fn begins_again_after_a_read(rt: HostRuntime) -> Result<(), Fail> {
-    let alloc = rt.alloc();
-    for (rows, before) in [
-        (
-            [Row::Marker("prefer-new"), Row::Data("a")],
-            Between::Nothing,
-        ),
-        ([Row::Marker("use-new"), Row::Data("a")], Between::Nothing),
-        ([Row::Data("b"), Row::Data("c")], Between::Seal),
-    ] {
-        let samples = [(Do::Replace, "a", 9)];
-        let got = run(alloc, &rows, &samples, before, Between::Nothing)?;
-        assert!(rt; got.as_str() == "^ a : more", "{got}");
+fn begins_again_after_a_race_in_old(rt: HostRuntime) -> Result<(), Fail> {
+    let old = [Row::Old(Phase::UseOld), Row::Data("r")];
+    let ops = [("b", Do::Insert), ("r", Do::Replace(Cond::Any))];
+    for (rk, n) in [(MARKER_KEY, 1), ("r", 2)] {
+        let script = [
+            Act::Call(&ops),
+            Act::Reads(Side::Old),
+            Act::Replace(Side::Old, rk, n),
+            Act::Races(Side::Old, 3),
+            Act::Reads(Side::Old),
+        ];
+        play(rt.alloc(), &old, &[], &script)?;
+    }
+    let sealed = [
+        Act::Call(&ops[..1]),
+        Act::Reads(Side::Old),
+        Act::Seal,
+        Act::Races(Side::Old, 2),
+        Act::Reads(Side::Old),
+        Act::Reads(Side::New),
+    ];
+    play(rt.alloc(), &[], &[], &sealed)
+}
+
+#[test]
+fn a_delete_leaves_a_tombstone_while_new_fills(rt: HostRuntime) -> Result<(), Fail> {
+    let gone = [(MARKER_KEY, Did::Check(1)), ("r", Did::Insert("tomb", 1))];
+    let back = [
+        (MARKER_KEY, Did::Check(1)),
+        ("r", Did::Replace("live", 2, 2)),
+    ];
+    for cond in [Cond::Any, Cond::Is(SEEN)] {
+        let delete = [("r", Do::Delete(cond))];
+        let script = [
+            Act::Call(&delete),
+            Act::Reads(Side::Old),
+            Act::Reads(Side::New),
+            Act::Writes(Side::New, &gone, &[(0, 2)]),
+            Act::Call(&delete),
+            Act::Reads(Side::Old),
+            Act::Refused(Side::New, 0, Cause::NotFound),
+            Act::Call(&[("r", Do::Insert)]),
+            Act::Reads(Side::Old),
+            Act::Reads(Side::New),
+            Act::Writes(Side::New, &back, &[(1, 3)]),
+        ];
+        play(rt.alloc(), &TURNED, &[Row::New(NewPhase::Filling)], &script)?;
     }
     Ok(())
 }
 
 #[test]
-fn begins_again_after_a_race(rt: HostRuntime) -> Result<(), Fail> {
-    let alloc = rt.alloc();
-    let rows = [Row::Marker("use-old"), Row::Data("a")];
-    let samples = [(Do::Insert, "b", 0), (Do::Replace, "a", 2)];
-    let marker = run(
-        alloc,
-        &rows,
-        &samples,
-        Between::Nothing,
-        Between::Replace(MARKER_KEY, 1),
-    )?;
-    let row = run(
-        alloc,
-        &rows,
-        &samples,
-        Between::Nothing,
-        Between::Replace("a", 2),
-    )?;
-    let birth = run(
-        alloc,
-        &[],
-        &[(Do::Insert, "b", 0)],
-        Between::Nothing,
-        Between::Seal,
-    )?;
-    let want = "^ a b : more; ^?@1 a=1@2 b+1 : more false";
-    assert!(rt; marker.as_str() == want, "{marker}");
-    assert!(rt; row.as_str() == want, "{row}");
-    assert!(rt;
-        birth.as_str() == "^ b : more; ^+1 b+1 : more false",
-        "{birth}"
-    );
+fn merges_old_through_a_copy_while_new_fills(rt: HostRuntime) -> Result<(), Fail> {
+    let new = [
+        Row::New(NewPhase::Filling),
+        Row::Kept("r", Mark::Copy(OTHER)),
+        Row::Kept("a", Mark::Live),
+        Row::Kept("b", Mark::Tomb),
+    ];
+    let ops = [
+        ("r", Do::Merge(Cond::Is(SEEN))),
+        ("a", Do::Replace(Cond::Is(Tag { store: 1, n: 3 }))),
+        ("b", Do::InsertOrMerge),
+        ("d", Do::Insert),
+    ];
+    let puts = [
+        (MARKER_KEY, Did::Check(1)),
+        ("a", Did::Replace("live", 2, 3)),
+        ("b", Did::Replace("live", 2, 4)),
+        ("d", Did::Insert("live", 2)),
+        ("r", Did::Replace("live", 3, 2)),
+    ];
+    let script = [
+        Act::Call(&ops),
+        Act::Reads(Side::Old),
+        Act::Reads(Side::New),
+        Act::Writes(Side::New, &puts, &[(1, 8), (1, 5), (1, 6), (1, 7)]),
+    ];
+    play(rt.alloc(), &TURNED, &new, &script)
+}
+
+#[test]
+fn a_copy_keeps_its_tag_at_use_new(rt: HostRuntime) -> Result<(), Fail> {
+    let new = [Row::New(NewPhase::UseNew), Row::Kept("r", Mark::Copy(SEEN))];
+    let replaced = [
+        (MARKER_KEY, Did::Check(1)),
+        ("r", Did::Replace("live", 2, 2)),
+    ];
+    let deleted = [(MARKER_KEY, Did::Check(1)), ("r", Did::Delete(2))];
+    let own = [
+        Act::Call(&[("r", Do::Replace(Cond::Is(OTHER)))]),
+        Act::Reads(Side::Old),
+        Act::Refused(Side::New, 0, Cause::ConditionFailed),
+        Act::Call(&[("r", Do::Replace(Cond::Is(SEEN)))]),
+        Act::Reads(Side::Old),
+        Act::Reads(Side::New),
+        Act::Writes(Side::New, &replaced, &[(1, 3)]),
+    ];
+    play(rt.alloc(), &TURNED, &new, &own)?;
+    let gone = [
+        Act::Call(&[("r", Do::Delete(Cond::Any))]),
+        Act::Reads(Side::Old),
+        Act::Reads(Side::New),
+        Act::Writes(Side::New, &deleted, &[(0, 2)]),
+        Act::Call(&[("r", Do::Replace(Cond::Any))]),
+        Act::Reads(Side::Old),
+        Act::Refused(Side::New, 0, Cause::NotFound),
+    ];
+    play(rt.alloc(), &TURNED, &new, &gone)
+}
+
+#[test]
+fn new_bears_a_partition_after_the_seal(rt: HostRuntime) -> Result<(), Fail> {
+    let born = [
+        (MARKER_KEY, Did::Insert("use-new", 1)),
+        ("1", Did::Insert("live", 2)),
+    ];
+    let more = [(MARKER_KEY, Did::Check(1)), ("2", Did::Insert("live", 2))];
+    let script = [
+        Act::Seal,
+        Act::Call(&[("1", Do::Replace(Cond::Any))]),
+        Act::Reads(Side::Old),
+        Act::Refused(Side::New, 0, Cause::NotFound),
+        Act::Call(&[("1", Do::Insert)]),
+        Act::Reads(Side::Old),
+        Act::Reads(Side::New),
+        Act::Writes(Side::New, &born, &[(1, 2)]),
+        Act::Call(&[("2", Do::Insert)]),
+        Act::Reads(Side::Old),
+        Act::Reads(Side::New),
+        Act::Writes(Side::New, &more, &[(1, 3)]),
+    ];
+    play(rt.alloc(), &[], &[], &script)
+}
+
+#[test]
+fn begins_again_after_a_race_in_new(rt: HostRuntime) -> Result<(), Fail> {
+    for phase in [NewPhase::Filling, NewPhase::UseNew] {
+        let new = [Row::New(phase), Row::Kept("r", Mark::Live)];
+        for (rk, n) in [(MARKER_KEY, 1), ("r", 2)] {
+            let script = [
+                Act::Call(&[("r", Do::InsertOrReplace)]),
+                Act::Reads(Side::Old),
+                Act::Reads(Side::New),
+                Act::Replace(Side::New, rk, n),
+                Act::Races(Side::New, 2),
+                Act::Reads(Side::Old),
+            ];
+            play(rt.alloc(), &TURNED, &new, &script)?;
+        }
+    }
     Ok(())
+}
+
+#[test]
+fn begins_again_where_no_line_fits(rt: HostRuntime) -> Result<(), Fail> {
+    let ops = [("r", Do::Replace(Cond::Any))];
+    let again = [
+        Act::Call(&ops),
+        Act::Reads(Side::Old),
+        Act::Reads(Side::New),
+        Act::Reads(Side::Old),
+    ];
+    play(rt.alloc(), &TURNED, &[], &again)?;
+    play(rt.alloc(), &TURNED, &[Row::Old(Phase::UseOld)], &again)?;
+    let sealed = [
+        Act::Seal,
+        Act::Call(&ops),
+        Act::Reads(Side::Old),
+        Act::Reads(Side::New),
+        Act::Reads(Side::Old),
+    ];
+    play(rt.alloc(), &[], &[Row::New(NewPhase::Filling)], &sealed)?;
+    let odd = [
+        Act::Call(&ops),
+        Act::Reads(Side::Old),
+        Act::Reads(Side::Old),
+    ];
+    play(rt.alloc(), &[Row::New(NewPhase::UseNew)], &[], &odd)
 }
