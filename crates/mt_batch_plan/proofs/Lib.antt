@@ -1,3 +1,4 @@
+pub mod ClientPuts
 pub mod OldChanges
 pub mod NewChanges
 pub mod NameLaws

@@ -34,6 +34,7 @@ use Rattle.mt_meta.proofs.ModeLaws.{IsWhole, whole, is_overlaid, filling_ranks, 
 use Rattle.mt_meta.proofs.Growth.{stays_self}
 use Rattle.mt_meta.proofs.StorePuts.{moves_puts, Leaves, touched, IsSeen, seen, no_row, the_row}
 use Rattle.mt_meta.proofs.Parts.{FormsAt, KeptAt, kept_on, new_step}
+use Rattle.mt_batch_plan.proofs.ClientPuts.{LeavesAs, IsPutOf, marker_stays, IsOneOf, left_props, one_of}
 use Rattle.mt_batch_plan.specs.Bases.{shown_over, marker_birth_new}
 
 -- what a client leaves as an entry: a live row, and while new fills also a tombstone
@@ -46,17 +47,8 @@ abbrev pub MayDelete : NewPhase → Type 0
 MayDelete Filling = ⊥
 MayDelete UseNew = Unit {0}
 
-abbrev pub LeavesEntry : Put → NewPhase → Type 0
-LeavesEntry (Check rk tag) phase = ⊥
-LeavesEntry (Insert rk props) phase = IsLeft phase props
-LeavesEntry (Replace rk props tag) phase = IsLeft phase props
-LeavesEntry (Delete rk tag) phase = MayDelete phase
-
--- a put of a client in new: not of the marker, under a client's key, and what it leaves is a client's
-pub record IsNewPut (pk : List ℕ) (phase : NewPhase) (put : Put) : Type 0 where
-  pub other : row_key put ≢ marker_key
-  pub key : key_fault pk (row_key put) ≡ None
-  pub leaves : LeavesEntry put phase
+abbrev pub IsNewPut : List ℕ → NewPhase → Put → Type 0
+IsNewPut pk phase put = IsPutOf pk (IsLeft phase) (MayDelete phase) put
 
 -- a write of one partition of new, where clients see this of its entries
 pub record NewWrite (p : Pair) (part : List ℕ) (phase : NewPhase) (rest : List Put) (n : ℕ) (q : Pair) : Type 0 where
@@ -93,36 +85,8 @@ left_no_tomb ps h e = (let x = sym (live_is ps h) ∙ e in cc)
 
 -- ---- puts of a client
 
--- they leave the marker as it is
-unmarked : (pk : List ℕ) (phase : NewPhase) (rest : List Put) → Each (IsNewPut pk phase) rest → is_named marker_key rest ≡ false
-unmarked pk phase [] h = refl
-unmarked pk phase (put ∷ rest) h = ap (λ b. b || is_named marker_key rest) (text_false (row_key put) marker_key h.0.other) ∙ unmarked pk phase rest h.1
-
-marker_stays : (pk : List ℕ) (phase : NewPhase) (store n : ℕ) (rest : List Put) (row : Option Stored) → Each (IsNewPut pk phase) rest → row_after store n rest marker_key row ≡ row
-marker_stays pk phase store n rest row h = row_after_unnamed store n rest marker_key row (unmarked pk phase rest h)
-
--- an entry that is there after them was there, or is what a client leaves under a client's key
-abbrev IsOneOf : List ℕ → NewPhase → List ℕ → Option Stored → Stored → Type 0
-IsOneOf pk phase rk entry r = (entry ≡ Some r) ⊎ (IsLeft phase r.props × (key_fault pk rk ≡ None))
-
-props_left : (phase : NewPhase) (w r : Stored) (ps : List Prop) → IsLeft phase ps → w.props ≡ ps → w ≡ r → IsLeft phase r.props
-props_left phase w r ps l e same = subst (IsLeft phase) (sym e ∙ ap (λ (x : Stored). x.props) same) l
-
-left_props : (phase : NewPhase) (put : Put) (after : Option Stored) (r : Stored) → LeavesEntry put phase → Leaves put after → after ≡ Some r → IsLeft phase r.props
-left_props phase (Check rk tag) after r h l is = absurd l
-left_props phase (Insert rk props) after r h l is = props_left phase l.0 r props h l.2 (the_row l.0 r (sym l.1 ∙ is))
-left_props phase (Replace rk props tag) after r h l is = props_left phase l.0 r props h l.2 (the_row l.0 r (sym l.1 ∙ is))
-left_props phase (Delete rk tag) after r h l is = absurd (let e = sym l ∙ is in cc)
-
-entry_after : (pk : List ℕ) (phase : NewPhase) (store n : ℕ) (rest : List Put) (rk : List ℕ) (entry : Option Stored) (r : Stored) → Each (IsNewPut pk phase) rest
-    → row_after store n rest rk entry ≡ Some r → IsOneOf pk phase rk entry r
-entry_after pk phase store n rest rk entry r h is = elim (touched (IsNewPut pk phase) store n rest rk entry h) as (λ _. IsOneOf pk phase rk entry r) [
-  | inl same ↦ inl (sym same ∙ is)
-  | inr w ↦ inr (left_props phase w.0 (row_after store n rest rk entry) r w.1.leaves w.3 is, subst (λ k. key_fault pk k ≡ None) w.2 w.1.key)
-]
-
 -- while new fills an entry stays one
-left_there : (put : Put) (after : Option Stored) → LeavesEntry put Filling → Leaves put after → is_some after ≡ true
+left_there : (put : Put) (after : Option Stored) → LeavesAs (IsLeft Filling) (MayDelete Filling) put → Leaves put after → is_some after ≡ true
 left_there (Check rk tag) after h l = absurd l
 left_there (Insert rk props) after h l = ap is_some l.1
 left_there (Replace rk props tag) after h l = ap is_some l.1
@@ -133,7 +97,7 @@ entry_stays pk store n rest rk entry h = elim (touched (IsNewPut pk Filling) sto
   | inl same ↦ subst (EntryStays entry) (sym same) (stays_self entry)
   | inr w ↦ record {
     there = λ x. left_there w.0 (row_after store n rest rk entry) w.1.leaves w.3;
-    copies = λ e tag is copy. absurd (left_no_copy Filling e.props tag (left_props Filling w.0 (row_after store n rest rk entry) e w.1.leaves w.3 is) copy);
+    copies = λ e tag is copy. absurd (left_no_copy Filling e.props tag (left_props (IsLeft Filling) (MayDelete Filling) w.0 (row_after store n rest rk entry) e w.1.leaves w.3 is) copy);
   }
 ]
 
@@ -147,25 +111,25 @@ not_tomb None r h is = absurd cc
 not_tomb (Some s) r h is = subst (λ (y : Stored). mark_of y.props ≢ Some Tomb) (the_row s r is) h
 
 no_tomb_after : (pk : List ℕ) (store n : ℕ) (rest : List Put) (rk : List ℕ) (entry : Option Stored) → Each (IsNewPut pk UseNew) rest → NoTomb entry → NoTomb (row_after store n rest rk entry)
-no_tomb_after pk store n rest rk entry h none = no_tomb (row_after store n rest rk entry) (λ r is. go r (entry_after pk UseNew store n rest rk entry r h is)) where
-  go : (r : Stored) → IsOneOf pk UseNew rk entry r → mark_of r.props ≢ Some Tomb
+no_tomb_after pk store n rest rk entry h none = no_tomb (row_after store n rest rk entry) (λ r is. go r (one_of pk (IsLeft UseNew) (MayDelete UseNew) store n rest rk entry r h is)) where
+  go : (r : Stored) → IsOneOf pk (IsLeft UseNew) rk entry r → mark_of r.props ≢ Some Tomb
   go r (inl was) = not_tomb entry r none was
   go r (inr left) = left_no_tomb r.props left.0
 
 -- what a partition of new has to have after them, at clients' keys
 module _ (p : Pair) (pk : List ℕ) (phase : NewPhase) (rest : List Put) (n : ℕ) (c : Contents) (s : IsSound p) (good : Each (IsNewPut pk phase) rest)
     (row_now : (rk : List ℕ) → rk ≢ marker_key → row_at c.rows pk rk ≡ row_after p.new_number n rest rk (new_at p pk rk)) where
-  one_of : (rk : List ℕ) (row : Stored) → rk ≢ marker_key → row_at c.rows pk rk ≡ Some row → IsOneOf pk phase rk (new_at p pk rk) row
-  one_of rk row other is = entry_after pk phase p.new_number n rest rk (new_at p pk rk) row good (sym (row_now rk other) ∙ is)
+  entry_of : (rk : List ℕ) (row : Stored) → rk ≢ marker_key → row_at c.rows pk rk ≡ Some row → IsOneOf pk (IsLeft phase) rk (new_at p pk rk) row
+  entry_of rk row other is = one_of pk (IsLeft phase) (MayDelete phase) p.new_number n rest rk (new_at p pk rk) row good (sym (row_now rk other) ∙ is)
 
   entry_forms : (rk : List ℕ) (row : Stored) → rk ≢ marker_key → row_at c.rows pk rk ≡ Some row → IsEntry row.props × (key_fault pk rk ≡ None)
-  entry_forms rk row other is = elim (one_of rk row other is) as (λ _. IsEntry row.props × (key_fault pk rk ≡ None)) [
+  entry_forms rk row other is = elim (entry_of rk row other is) as (λ _. IsEntry row.props × (key_fault pk rk ≡ None)) [
     | inl was ↦ s.forms.1.data_rows pk rk row other was
     | inr fresh ↦ (left_entry phase row.props fresh.0, fresh.1)
   ]
 
   entry_kept : (rk : List ℕ) (row : Stored) (tag : Tag) → rk ≢ marker_key → row_at c.rows pk rk ≡ Some row → mark_of row.props ≡ Some (Copy tag) → IsKept p p.new_number tag
-  entry_kept rk row tag other is copy = elim (one_of rk row other is) as (λ _. IsKept p p.new_number tag) [
+  entry_kept rk row tag other is copy = elim (entry_of rk row other is) as (λ _. IsKept p p.new_number tag) [
     | inl was ↦ s.tags.3 pk rk row tag was copy
     | inr fresh ↦ absurd (left_no_copy phase row.props tag fresh.0 copy)
   ]
@@ -250,7 +214,7 @@ module _ (p : Pair) (pk : List ℕ) (phase : NewPhase) (props : List Prop) (tag 
   row_written rk = all_puts p.new_number p.new.counter pk rest p.new.rows rk
 
   marker_same : new_at pair_written pk marker_key ≡ new_at p pk marker_key
-  marker_same = row_written marker_key ∙ marker_stays pk phase p.new_number p.new.counter rest (new_at p pk marker_key) good
+  marker_same = row_written marker_key ∙ marker_stays pk (IsLeft phase) (MayDelete phase) p.new_number p.new.counter rest (new_at p pk marker_key) good
 
   state_written : new_state_at pair_written pk ≡ new_says (Some phase)
   state_written = ap new_state marker_same ∙ checked_state
@@ -382,7 +346,7 @@ module _ (p : Pair) (pk : List ℕ) (rest : List Put) (s : IsSound p) (part : pa
   marker_born : new_at pair_born pk marker_key ≡ Some (record { props = marker_props (new_kind UseNew); tag = next_tag p.new_number p.new.counter })
   marker_born =
       all_puts p.new_number p.new.counter pk (marker_birth_new ∷ rest) p.new.rows marker_key
-      ∙ marker_stays pk UseNew p.new_number (p.new.counter + 1) rest (left_by p.new_number p.new.counter marker_birth_new (new_at p pk marker_key)) good
+      ∙ marker_stays pk (IsLeft UseNew) (MayDelete UseNew) p.new_number (p.new.counter + 1) rest (left_by p.new_number p.new.counter marker_birth_new (new_at p pk marker_key)) good
 
   state_born : new_state_at pair_born pk ≡ AtUseNew
   state_born = ap new_state marker_born ∙ ap new_says (new_read UseNew)

@@ -34,21 +34,16 @@ use Rattle.mt_meta.proofs.ModeLaws.{IsWhole, old_in, new_in, whole, says, early_
 use Rattle.mt_meta.proofs.Growth.{no_rows}
 use Rattle.mt_meta.proofs.StorePuts.{moves_puts, Leaves, touched, IsSeen, seen, no_row, the_row}
 use Rattle.mt_meta.proofs.Parts.{FormsAt, KeptAt, kept_on, by_part, old_early}
+use Rattle.mt_batch_plan.proofs.ClientPuts.{IsPutOf, marker_stays, IsOneOf, one_of}
 use Rattle.mt_batch_plan.specs.Bases.{marker_birth, is_write_phase}
 use Rattle.mt_batch_plan.specs.Unmoved.{StaysInOld}
 
--- what a put writes; a check and a delete write nothing
-abbrev pub written_props : Put → List Prop
-written_props (Check rk tag) = []
-written_props (Insert rk props) = props
-written_props (Replace rk props tag) = props
-written_props (Delete rk tag) = []
+-- a client's properties have nothing hidden
+abbrev pub IsVisible : List Prop → Type 0
+IsVisible ps = filter is_visible ps ≡ ps
 
--- a put of a client in old: not of the marker, under a client's key, and what it writes is a client's
-pub record IsClientPut (pk : List ℕ) (put : Put) : Type 0 where
-  pub other : row_key put ≢ marker_key
-  pub key : key_fault pk (row_key put) ≡ None
-  pub visible : filter is_visible (written_props put) ≡ written_props put
+abbrev pub IsClientPut : List ℕ → Put → Type 0
+IsClientPut pk put = IsPutOf pk IsVisible (Unit {0}) put
 
 -- a marker of old that lets clients write there
 abbrev pub is_write_state : OldState → Bool
@@ -67,39 +62,11 @@ pub record OldWrite (p : Pair) (part : List ℕ) (rest : List Put) (n : ℕ) (q 
 
 -- ---- puts of a client
 
--- they leave the marker as it is
-unmarked : (pk : List ℕ) (rest : List Put) → Each (IsClientPut pk) rest → is_named marker_key rest ≡ false
-unmarked pk [] h = refl
-unmarked pk (put ∷ rest) h = ap (λ b. b || is_named marker_key rest) (text_false (row_key put) marker_key h.0.other) ∙ unmarked pk rest h.1
-
-marker_stays : (pk : List ℕ) (store n : ℕ) (rest : List Put) (row : Option Stored) → Each (IsClientPut pk) rest → row_after store n rest marker_key row ≡ row
-marker_stays pk store n rest row h = row_after_unnamed store n rest marker_key row (unmarked pk rest h)
-
--- a row that is there after them was there, or is a client's under a client's key
-abbrev IsLeft : List ℕ → List ℕ → Option Stored → Stored → Type 0
-IsLeft pk rk row r = (row ≡ Some r) ⊎ ((filter is_visible r.props ≡ r.props) × (key_fault pk rk ≡ None))
-
-written_is : (w r : Stored) (ps : List Prop) → filter is_visible ps ≡ ps → w.props ≡ ps → w ≡ r → filter is_visible r.props ≡ r.props
-written_is w r ps v e same = subst (λ qs. filter is_visible qs ≡ qs) (sym e ∙ ap (λ (x : Stored). x.props) same) v
-
-left_visible : (pk : List ℕ) (put : Put) (after : Option Stored) (r : Stored) → IsClientPut pk put → Leaves put after → after ≡ Some r → filter is_visible r.props ≡ r.props
-left_visible pk (Check rk tag) after r h l is = absurd l
-left_visible pk (Insert rk props) after r h l is = written_is l.0 r props h.visible l.2 (the_row l.0 r (sym l.1 ∙ is))
-left_visible pk (Replace rk props tag) after r h l is = written_is l.0 r props h.visible l.2 (the_row l.0 r (sym l.1 ∙ is))
-left_visible pk (Delete rk tag) after r h l is = absurd (let e = sym l ∙ is in cc)
-
-client_row : (pk : List ℕ) (store n : ℕ) (rest : List Put) (rk : List ℕ) (row : Option Stored) (r : Stored) → Each (IsClientPut pk) rest
-    → row_after store n rest rk row ≡ Some r → IsLeft pk rk row r
-client_row pk store n rest rk row r h is = elim (touched (IsClientPut pk) store n rest rk row h) as (λ _. IsLeft pk rk row r) [
-  | inl same ↦ inl (sym same ∙ is)
-  | inr w ↦ inr (left_visible pk w.0 (row_after store n rest rk row) r w.1 w.3 is, subst (λ k. key_fault pk k ≡ None) w.2 w.1.key)
-]
-
 -- what a partition of old has to have after them, at clients' keys
 module _ (p : Pair) (pk : List ℕ) (rest : List Put) (n : ℕ) (c : Contents) (s : IsSound p) (good : Each (IsClientPut pk) rest)
     (row_now : (rk : List ℕ) → rk ≢ marker_key → row_at c.rows pk rk ≡ row_after p.old_number n rest rk (old_at p pk rk)) where
-  left : (rk : List ℕ) (row : Stored) → rk ≢ marker_key → row_at c.rows pk rk ≡ Some row → IsLeft pk rk (old_at p pk rk) row
-  left rk row other is = client_row pk p.old_number n rest rk (old_at p pk rk) row good (sym (row_now rk other) ∙ is)
+  left : (rk : List ℕ) (row : Stored) → rk ≢ marker_key → row_at c.rows pk rk ≡ Some row → IsOneOf pk IsVisible rk (old_at p pk rk) row
+  left rk row other is = one_of pk IsVisible (Unit {0}) p.old_number n rest rk (old_at p pk rk) row good (sym (row_now rk other) ∙ is)
 
   client_forms : (rk : List ℕ) (row : Stored) → rk ≢ marker_key → row_at c.rows pk rk ≡ Some row → IsOldRow p.old_number row.props × (key_fault pk rk ≡ None)
   client_forms rk row other is = elim (left rk row other is) as (λ _. IsOldRow p.old_number row.props × (key_fault pk rk ≡ None)) [
@@ -173,7 +140,7 @@ module _ (p : Pair) (pk : List ℕ) (props : List Prop) (tag : Tag) (rest : List
   row_written rk = all_puts p.old_number p.old.counter pk rest p.old.rows rk
 
   marker_same : old_at pair_written pk marker_key ≡ old_at p pk marker_key
-  marker_same = row_written marker_key ∙ marker_stays pk p.old_number p.old.counter rest (old_at p pk marker_key) good
+  marker_same = row_written marker_key ∙ marker_stays pk IsVisible (Unit {0}) p.old_number p.old.counter rest (old_at p pk marker_key) good
 
   state_same : old_state_at pair_written pk ≡ old_state_at p pk
   state_same = ap old_state marker_same
@@ -260,7 +227,7 @@ module _ (p : Pair) (pk : List ℕ) (rest : List Put) (s : IsSound p) (part : pa
   marker_born : old_at pair_born pk marker_key ≡ Some (record { props = marker_props (old_kind UseOld); tag = next_tag p.old_number p.old.counter })
   marker_born =
       all_puts p.old_number p.old.counter pk (marker_birth ∷ rest) p.old.rows marker_key
-      ∙ marker_stays pk p.old_number (p.old.counter + 1) rest (left_by p.old_number p.old.counter marker_birth (old_at p pk marker_key)) good
+      ∙ marker_stays pk IsVisible (Unit {0}) p.old_number (p.old.counter + 1) rest (left_by p.old_number p.old.counter marker_birth (old_at p pk marker_key)) good
 
   state_born : old_state_at pair_born pk ≡ AtUseOld
   state_born = ap old_state marker_born ∙ ap old_says (old_read p.old_number UseOld)

@@ -35,9 +35,10 @@ use Rattle.mt_meta.proofs.MarkLaws.{live_reads, live_visible}
 use Rattle.mt_rules.proofs.VisibleLaws.{none_hidden}
 use Rattle.mt_batch_plan.specs.declared.basis.Basis.{Basis}
 use Rattle.mt_batch_plan.specs.declared.basis.Basis.TheVariants.{OldRows, OldBirth, Overlay, NewRows, NewBirth}
-use Rattle.mt_batch_plan.specs.Bases.{shown_over, seen_on, seen_by, stored_in, kept_props, kept_gone, untagged, kept_on, put_of, put_over, put_by}
-use Rattle.mt_batch_plan.proofs.OldChanges.{written_props, IsClientPut}
-use Rattle.mt_batch_plan.proofs.NewChanges.{IsLeft, LeavesEntry, IsNewPut}
+use Rattle.mt_batch_plan.specs.Bases.{shown_over, seen_on, seen_by, stored_in, under_in, kept_props, kept_gone, untagged, kept_on, put_of, put_over, put_by}
+use Rattle.mt_batch_plan.proofs.ClientPuts.{LeavesAs, IsPutOf}
+use Rattle.mt_batch_plan.proofs.OldChanges.{IsVisible}
+use Rattle.mt_batch_plan.proofs.NewChanges.{IsLeft, MayDelete}
 use Rattle.mt_batch_plan.proofs.OnRows.{AreVisible, all_visible, RowVisible, seen_row, seen_visible, shows_itself, WritesVisible, writes_visible, with_tag, with_its_tag, names_in}
 use Rattle.mt_batch_plan.proofs.NameLaws.{not_marker}
 use Rattle.mt_batch_plan.proofs.OpLaws.{IsOf}
@@ -45,54 +46,55 @@ use Rattle.mt_batch_plan.proofs.EffectLaws.{put_key}
 
 -- ---- the puts of a batch are a client's
 
--- a client's put in the store that is written
-abbrev pub IsGoodPut : List ℕ → Basis → Put → Type 0
-IsGoodPut pk (OldRows rows) put = IsClientPut pk put
-IsGoodPut pk OldBirth put = IsClientPut pk put
-IsGoodPut pk (Overlay rows entries) put = IsNewPut pk Filling put
-IsGoodPut pk (NewRows entries) put = IsNewPut pk UseNew put
-IsGoodPut pk NewBirth put = IsNewPut pk UseNew put
+-- what a client leaves in the store that is written: visible properties in old; in new a live row, and while new fills also a tombstone
+abbrev pub LeftIn : Basis → List Prop → Type 0
+LeftIn (OldRows rows) = IsVisible
+LeftIn OldBirth = IsVisible
+LeftIn (Overlay rows entries) = IsLeft Filling
+LeftIn (NewRows entries) = IsLeft UseNew
+LeftIn NewBirth = IsLeft UseNew
 
--- in old it writes visible properties
-written_visible : (rk : List ℕ) (row made : Option Stored) → RowVisible made → filter is_visible (written_props (put_of rk row made)) ≡ written_props (put_of rk row made)
-written_visible rk None None h = refl
-written_visible rk None (Some made) h = all_visible made.props h
-written_visible rk (Some row) None h = refl
-written_visible rk (Some row) (Some made) h = all_visible made.props h
+-- it deletes no entry while new fills
+abbrev pub GoneIn : Basis → Type 0
+GoneIn (OldRows rows) = Unit {0}
+GoneIn OldBirth = Unit {0}
+GoneIn (Overlay rows entries) = MayDelete Filling
+GoneIn (NewRows entries) = MayDelete UseNew
+GoneIn NewBirth = MayDelete UseNew
+
+abbrev pub IsGoodPut : List ℕ → Basis → Put → Type 0
+IsGoodPut pk basis put = IsPutOf pk (LeftIn basis) (GoneIn basis) put
+
+live_again : (ps : List Prop) → stored Live ps ≡ stored Live (stored Live ps)
+live_again ps = ap (λ (qs : List Prop). marked Live qs) (sym (live_visible ps))
+
+row_left : (basis : Basis) (ps : List Prop) → AreVisible ps → LeftIn basis (kept_props basis ps)
+row_left (OldRows rows) ps h = all_visible ps h
+row_left OldBirth ps h = all_visible ps h
+row_left (Overlay rows entries) ps h = inl (live_again ps)
+row_left (NewRows entries) ps h = live_again ps
+row_left NewBirth ps h = live_again ps
+
+gone_left : (basis : Basis) (rk : List ℕ) (row : Option Stored) → LeavesAs (LeftIn basis) (GoneIn basis) (put_of rk row (option_map untagged (kept_gone basis)))
+gone_left (OldRows rows) rk None = tt
+gone_left (OldRows rows) rk (Some was) = tt
+gone_left OldBirth rk None = tt
+gone_left OldBirth rk (Some was) = tt
+gone_left (Overlay rows entries) rk None = inr refl
+gone_left (Overlay rows entries) rk (Some was) = inr refl
+gone_left (NewRows entries) rk None = tt
+gone_left (NewRows entries) rk (Some was) = tt
+gone_left NewBirth rk None = tt
+gone_left NewBirth rk (Some was) = tt
+
+put_leaves : (basis : Basis) (rk : List ℕ) (row made : Option Stored) → RowVisible made → LeavesAs (LeftIn basis) (GoneIn basis) (put_of rk row (kept_on basis made))
+put_leaves basis rk row None h = gone_left basis rk row
+put_leaves basis rk None (Some made) h = row_left basis made.props h
+put_leaves basis rk (Some was) (Some made) h = row_left basis made.props h
 
 left_visible : (made : Outcome) → WritesVisible made → RowVisible (left_by made None)
 left_visible (Ok row) h = h
 left_visible (Err cause) h = tt
-
-rows_kept : (rows : List StoredRow) (made : Option Stored) → RowVisible made → RowVisible (kept_on (OldRows rows) made)
-rows_kept rows None h = tt
-rows_kept rows (Some row) h = h
-
-birth_kept : (made : Option Stored) → RowVisible made → RowVisible (kept_on OldBirth made)
-birth_kept None h = tt
-birth_kept (Some row) h = h
-
--- in new it leaves a live row, and while new fills also a tombstone
-live_again : (ps : List Prop) → stored Live ps ≡ stored Live (stored Live ps)
-live_again ps = ap (λ (qs : List Prop). marked Live qs) (sym (live_visible ps))
-
-fills_entry : (rows entries : List StoredRow) (rk : List ℕ) (entry made : Option Stored) → LeavesEntry (put_of rk entry (kept_on (Overlay rows entries) made)) Filling
-fills_entry rows entries rk None (Some row) = inl (live_again row.props)
-fills_entry rows entries rk (Some was) (Some row) = inl (live_again row.props)
-fills_entry rows entries rk None None = inr refl
-fills_entry rows entries rk (Some was) None = inr refl
-
-leaves_entry : (entries : List StoredRow) (rk : List ℕ) (entry made : Option Stored) → LeavesEntry (put_of rk entry (kept_on (NewRows entries) made)) UseNew
-leaves_entry entries rk None (Some row) = live_again row.props
-leaves_entry entries rk (Some was) (Some row) = live_again row.props
-leaves_entry entries rk None None = tt
-leaves_entry entries rk (Some was) None = tt
-
-born_entry : (rk : List ℕ) (entry made : Option Stored) → LeavesEntry (put_of rk entry (kept_on NewBirth made)) UseNew
-born_entry rk None (Some row) = live_again row.props
-born_entry rk (Some was) (Some row) = live_again row.props
-born_entry rk None None = tt
-born_entry rk (Some was) None = tt
 
 -- ---- what clients see of it
 
@@ -172,39 +174,16 @@ put_shows basis store n op under row visible accepted =
 -- ---- each put
 
 good_put : (pk : List ℕ) (basis : Basis) (op : Op) → IsOf pk op → IsGoodPut pk basis (put_by basis op)
-good_put pk basis op h = go basis (λ e. not_marker pk (op_key op).rk key (sym (put_key basis op) ∙ e)) (ap (key_fault pk) (put_key basis op) ∙ key) where
-  key : key_fault pk (op_key op).rk ≡ None
-  key = ap (λ k. key_fault k (op_key op).rk) (sym h.0) ∙ h.1.key
-
-  seen : Basis → Option Stored
-  seen b = seen_by b (op_key op).rk
-
-  visible : (row : Option Stored) → RowVisible row → RowVisible (left_by (effect op row any_tag) None)
-  visible row v = left_visible (effect op row any_tag) (writes_visible op row h.1.visible v)
-
-  go : (b : Basis) → (row_key (put_by b op) ≡ marker_key → ⊥) → key_fault pk (row_key (put_by b op)) ≡ None → IsGoodPut pk b (put_by b op)
-  go (OldRows rows) other k = record {
-    other = other;
-    key = k;
-    visible = written_visible (op_key op).rk (stored_in (OldRows rows) (op_key op).rk) (kept_on (OldRows rows) (left_by (effect op (seen (OldRows rows)) any_tag) None))
-        (rows_kept rows (left_by (effect op (seen (OldRows rows)) any_tag) None) (visible (seen (OldRows rows)) (seen_visible (stored_in (OldRows rows) (op_key op).rk))));
-  }
-  go OldBirth other k = record {
-    other = other;
-    key = k;
-    visible = written_visible (op_key op).rk None (kept_on OldBirth (left_by (effect op None any_tag) None)) (birth_kept (left_by (effect op None any_tag) None) (visible None tt));
-  }
-  go (Overlay rows entries) other k = record {
-    other = other;
-    key = k;
-    leaves = fills_entry rows entries (op_key op).rk (stored_in (Overlay rows entries) (op_key op).rk) (left_by (effect op (seen (Overlay rows entries)) any_tag) None);
-  }
-  go (NewRows entries) other k = record {
-    other = other;
-    key = k;
-    leaves = leaves_entry entries (op_key op).rk (stored_in (NewRows entries) (op_key op).rk) (left_by (effect op (seen (NewRows entries)) any_tag) None);
-  }
-  go NewBirth other k = record { other = other; key = k; leaves = born_entry (op_key op).rk None (left_by (effect op None any_tag) None) }
+good_put pk basis op h =
+    let rk = (op_key op).rk in
+    let seen = seen_by basis rk in
+    let key : key_fault pk rk ≡ None = ap (λ k. key_fault k rk) (sym h.0) ∙ h.1.key in
+    record {
+      other = λ e. not_marker pk rk key (sym (put_key basis op) ∙ e);
+      key = ap (key_fault pk) (put_key basis op) ∙ key;
+      leaves = put_leaves basis rk (stored_in basis rk) (left_by (effect op seen any_tag) None)
+          (left_visible (effect op seen any_tag) (writes_visible op seen h.1.visible (sight_visible basis (under_in basis rk) (stored_in basis rk))));
+    }
 
 pub good_puts : (pk : List ℕ) (basis : Basis) (ops : List Op) → AllByRecursion (IsOf pk) ops → Each (IsGoodPut pk basis) (map (put_by basis) ops)
 good_puts pk basis [] h = tt
