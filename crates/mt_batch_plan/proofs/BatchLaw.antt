@@ -1,12 +1,11 @@
 -- A step of a batch call, over two told stores that are a sound pair.
-use Rattle.std.proofs.Common.{◌≡◌, ℕ, Bool, true, false, List, [], ◌∷◌, ◌++◌, map, refl, sym, ap, ◌∙◌, subst, inl, Some, None, Option, option_map, Ok, All}
+use Rattle.std.proofs.Common.{◌≡◌, ℕ, Bool, true, false, List, [], ◌∷◌, map, refl, sym, ap, ◌∙◌, subst, inl, Some, None, Option, option_map, Ok}
 use Rattle.mt_model.specs.declared.tag.Tag.{Tag}
 use Rattle.mt_chain.specs.declared.row.Stored.{Stored}
 use Rattle.mt_chain.specs.declared.row.StoredRow.{StoredRow}
 use Rattle.mt_chain.specs.declared.op.Op.{Op}
 use Rattle.mt_chain.specs.declared.op.Refusal.{Refusal}
 use Rattle.mt_chain.specs.declared.query.Found.{Found}
-use Rattle.mt_chain.specs.declared.query.PkFrom.TheVariants as start
 use Rattle.mt_chain.specs.declared.ask.Side.{Side}
 use Rattle.mt_chain.specs.declared.ask.Side.TheVariants.{Old, New}
 use Rattle.mt_chain.specs.declared.ask.Ask.{Ask}
@@ -18,7 +17,6 @@ use Rattle.mt_chain.specs.declared.ask.StoreReply.TheVariants as reply
 use Rattle.mt_chain.specs.Asks.{Means}
 use Rattle.mt_chain.specs.Rows.{shown, named_rows, row_in}
 use Rattle.mt_chain.specs.StoreCall.{Contents, Done, judge, IsFound}
-use Rattle.mt_chain.specs.Effect.{op_key}
 use Rattle.mt_chain.specs.Batch.{refusal_of}
 use Rattle.mt_chain.proofs.Theorems.{same_refusal}
 use Rattle.mt_rules.specs.Batches.{IsBatch, partition_of}
@@ -43,7 +41,7 @@ use Rattle.mt_batch_plan.specs.declared.place.Place.TheVariants.{ReadOld, ReadNe
 use Rattle.mt_batch_plan.specs.declared.call.BatchProgress.{BatchProgress}
 use Rattle.mt_batch_plan.specs.declared.call.BatchProgress.TheVariants.{More, Written}
 use Rattle.mt_batch_plan.specs.Bases.{table_on, side_of, put_by, marker_put, basis_facts}
-use Rattle.mt_batch_plan.specs.Calls.{AreNames, reads, writes, Asks, begin, decided, decide, marker_says, saw_old, saw, phase_says, saw_new, saw_entries, Absorbs, PlaceFits, place_facts}
+use Rattle.mt_batch_plan.specs.Calls.{AreNames, Asks, begin, decided, decide, marker_says, saw_old, saw, phase_says, saw_new, saw_entries, Absorbs, PlaceFits, place_facts}
 use Rattle.mt_batch_plan.specs.BatchSteps.{Does, BatchStep}
 use Rattle.mt_batch_plan.proofs.OldChanges.{is_write_state}
 use Rattle.mt_batch_plan.proofs.OpLaws.{marker_named}

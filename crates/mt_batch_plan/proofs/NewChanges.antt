@@ -1,5 +1,5 @@
 -- What a client's write in the new store does to a sound pair.
-use Rattle.std.proofs.Common.{◌≡◌, ◌≢◌, ◌⊎◌, ℕ, ◌+◌, ◌≤◌, Bool, true, false, ◌||◌, List, [], ◌∷◌, Option, Some, None, refl, sym, ap, ◌∙◌, subst, arith, inl, inr, if◌then◌else◌}
+use Rattle.std.proofs.Common.{◌≡◌, ◌≢◌, ◌⊎◌, ℕ, ◌+◌, ◌≤◌, Bool, true, false, List, [], ◌∷◌, Option, Some, None, refl, sym, ap, ◌∙◌, subst, arith, inl, inr, if◌then◌else◌}
 use Rattle.std.specs.Prelude.{is_some}
 use Rattle.mt_model.specs.declared.key.KeyPart.TheVariants.{Partition}
 use Rattle.mt_model.specs.declared.tag.Tag.{Tag}
@@ -10,10 +10,10 @@ use Rattle.mt_chain.specs.declared.row.StoredRow.{StoredRow}
 use Rattle.mt_chain.specs.declared.row.Put.{Put}
 use Rattle.mt_chain.specs.declared.row.Put.TheVariants.{Check, Insert, Replace, Delete}
 use Rattle.mt_chain.specs.Rows.{row_at}
-use Rattle.mt_chain.specs.Puts.{row_key, unmet_from, next_tag}
+use Rattle.mt_chain.specs.Puts.{unmet_from, next_tag}
 use Rattle.mt_chain.specs.StoreCall.{Contents, Done, judge}
 use Rattle.mt_chain.proofs.KeyLaws.{text_false}
-use Rattle.mt_chain.proofs.PutLaws.{left_by, row_after, all_puts, is_named, row_after_unnamed, Each, each_held}
+use Rattle.mt_chain.proofs.PutLaws.{left_by, row_after, all_puts, Each, each_held}
 use Rattle.mt_chain.proofs.JudgeLaws.{contents_after, was_done}
 use Rattle.mt_meta.specs.declared.marker.NewPhase.{NewPhase}
 use Rattle.mt_meta.specs.declared.marker.NewPhase.TheVariants.{Filling, UseNew}

@@ -1,5 +1,5 @@
 -- What a client's write in the old store does to a sound pair.
-use Rattle.std.proofs.Common.{◌≡◌, ◌≢◌, ◌⊎◌, ℕ, ◌+◌, ◌≤◌, Bool, true, false, ◌||◌, List, [], ◌∷◌, Option, Some, None, refl, sym, ap, ◌∙◌, subst, arith, inl, inr, if◌then◌else◌}
+use Rattle.std.proofs.Common.{◌≡◌, ◌≢◌, ◌⊎◌, ℕ, ◌+◌, ◌≤◌, Bool, true, false, List, [], ◌∷◌, Option, Some, None, refl, sym, ap, ◌∙◌, subst, arith, inl, inr, if◌then◌else◌}
 use Rattle.std.specs.Prelude.{filter}
 use Rattle.mt_model.specs.declared.key.KeyPart.TheVariants.{Partition}
 use Rattle.mt_model.specs.declared.tag.Tag.{Tag}
@@ -8,13 +8,13 @@ use Rattle.mt_model.specs.Key.{part_fault, key_fault}
 use Rattle.mt_model.specs.Props.{is_visible}
 use Rattle.mt_chain.specs.declared.row.Stored.{Stored}
 use Rattle.mt_chain.specs.declared.row.Put.{Put}
-use Rattle.mt_chain.specs.declared.row.Put.TheVariants.{Check, Insert, Replace, Delete}
+use Rattle.mt_chain.specs.declared.row.Put.TheVariants.{Check}
 use Rattle.mt_chain.specs.Rows.{row_at}
-use Rattle.mt_chain.specs.Puts.{row_key, unmet_from, next_tag}
+use Rattle.mt_chain.specs.Puts.{unmet_from, next_tag}
 use Rattle.mt_chain.specs.StoreCall.{Contents, Done, is_sealed_off, judge}
 use Rattle.mt_chain.proofs.KeyLaws.{text_false}
 use Rattle.mt_chain.proofs.RowLaws.{row_of_partition}
-use Rattle.mt_chain.proofs.PutLaws.{left_by, row_after, all_puts, counter_rises, elsewhere, is_named, row_after_unnamed, Each, each_held}
+use Rattle.mt_chain.proofs.PutLaws.{left_by, row_after, all_puts, counter_rises, elsewhere, Each, each_held}
 use Rattle.mt_chain.proofs.JudgeLaws.{contents_after, was_done, allowed_sealed}
 use Rattle.mt_meta.specs.declared.marker.Phase.{Phase}
 use Rattle.mt_meta.specs.declared.marker.Phase.TheVariants.{UseOld, PreferOld, PreferNew}
@@ -32,7 +32,7 @@ use Rattle.mt_meta.proofs.Rules.{old_read, key_cases, to_modes}
 use Rattle.mt_meta.proofs.ShownLaws.{logical_in}
 use Rattle.mt_meta.proofs.ModeLaws.{IsWhole, old_in, new_in, whole, says, early_shows, early_fits, unsealed_empty}
 use Rattle.mt_meta.proofs.Growth.{no_rows}
-use Rattle.mt_meta.proofs.StorePuts.{moves_puts, Leaves, touched, IsSeen, seen, no_row, the_row}
+use Rattle.mt_meta.proofs.StorePuts.{moves_puts, IsSeen, seen, no_row, the_row}
 use Rattle.mt_meta.proofs.Parts.{FormsAt, KeptAt, kept_on, by_part, old_early}
 use Rattle.mt_batch_plan.proofs.ClientPuts.{IsPutOf, marker_stays, IsOneOf, one_of}
 use Rattle.mt_batch_plan.specs.Bases.{marker_birth, is_write_phase}

@@ -1,5 +1,5 @@
 -- What the puts of a batch do to the rows of the store that is written, as clients see them.
-use Rattle.std.proofs.Common.{◌≡◌, ℕ, Bool, true, false, cond, ◌||◌, List, [], ◌∷◌, map, filter, refl, sym, ap, ◌∙◌, subst, bytes_eq, Some, None, Option, Ok, Err, inl, inr}
+use Rattle.std.proofs.Common.{◌≡◌, ℕ, Bool, true, false, cond, ◌||◌, List, [], ◌∷◌, map, refl, sym, ap, ◌∙◌, subst, bytes_eq, Some, None, Option, Ok, Err, inl, inr}
 use Rattle.std.specs.Prelude.{option_map}
 use Rattle.std.specs.List.{zip, AllByRecursion}
 use Rattle.std.specs.List.Sorted.{IsStrictlySortedBy}
@@ -10,9 +10,7 @@ use Rattle.std.specs.Cmp.Lexicographic.{slice_cmp, texts_ties, nat_list_eq_equiv
 use Rattle.mt_model.specs.declared.tag.Tag.{Tag}
 use Rattle.mt_model.specs.declared.value.Prop.{Prop}
 use Rattle.mt_model.specs.Key.{key_fault}
-use Rattle.mt_model.specs.Props.{is_visible}
 use Rattle.mt_chain.specs.declared.row.Stored.{Stored}
-use Rattle.mt_chain.specs.declared.row.StoredRow.{StoredRow}
 use Rattle.mt_chain.specs.declared.row.Put.{Put}
 use Rattle.mt_chain.specs.declared.op.Op.{Op}
 use Rattle.mt_chain.specs.Rows.{key_at}
@@ -22,7 +20,6 @@ use Rattle.mt_chain.specs.Batch.{names, op_at, row_after}
 use Rattle.mt_chain.proofs.KeyLaws.{text_true}
 use Rattle.mt_chain.proofs.PutLaws as puts
 use Rattle.mt_chain.proofs.PutLaws.{Each, is_named, row_after_unnamed}
-use Rattle.mt_rules.specs.Batches.{MayAsk}
 use Rattle.mt_meta.specs.declared.mark.Mark.{Mark}
 use Rattle.mt_meta.specs.declared.mark.Mark.TheVariants.{Live, Copy, Tomb}
 use Rattle.mt_meta.specs.declared.marker.NewPhase.{NewPhase}
@@ -30,7 +27,6 @@ use Rattle.mt_meta.specs.declared.marker.NewPhase.TheVariants.{Filling, UseNew}
 use Rattle.mt_meta.specs.Marks.{mark_of, marked, stored}
 use Rattle.mt_meta.specs.Logical.{new_by, filling_by, from_old}
 use Rattle.mt_meta.specs.Steps.{as_row}
-use Rattle.mt_meta.specs.Markers.{marker_key}
 use Rattle.mt_meta.proofs.MarkLaws.{live_reads, live_visible}
 use Rattle.mt_rules.proofs.VisibleLaws.{none_hidden}
 use Rattle.mt_batch_plan.specs.declared.basis.Basis.{Basis}
@@ -39,7 +35,7 @@ use Rattle.mt_batch_plan.specs.Bases.{shown_over, seen_on, seen_by, stored_in, u
 use Rattle.mt_batch_plan.proofs.ClientPuts.{LeavesAs, IsPutOf}
 use Rattle.mt_batch_plan.proofs.OldChanges.{IsVisible}
 use Rattle.mt_batch_plan.proofs.NewChanges.{IsLeft, MayDelete}
-use Rattle.mt_batch_plan.proofs.OnRows.{AreVisible, all_visible, RowVisible, seen_row, seen_visible, shows_itself, WritesVisible, writes_visible, with_tag, with_its_tag, names_in}
+use Rattle.mt_batch_plan.proofs.OnRows.{AreVisible, all_visible, RowVisible, seen_visible, shows_itself, WritesVisible, writes_visible, with_tag, with_its_tag, names_in}
 use Rattle.mt_batch_plan.proofs.NameLaws.{not_marker}
 use Rattle.mt_batch_plan.proofs.OpLaws.{IsOf}
 use Rattle.mt_batch_plan.proofs.EffectLaws.{put_key}

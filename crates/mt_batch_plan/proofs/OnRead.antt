@@ -1,5 +1,5 @@
 -- What the rows that a batch reads say of the stores, then and later, and when its puts hold.
-use Rattle.std.proofs.Common.{◌≡◌, ◌≢◌, ℕ, zero, suc, Bool, true, false, cond, ◌||◌, ◌==◌, List, [], ◌∷◌, ◌++◌, map, refl, sym, ap, ◌∙◌, subst, arith, eq-eqb, bytes_eq, nat_lt, Some, None, Option, Ok, Err}
+use Rattle.std.proofs.Common.{◌≡◌, ◌≢◌, ℕ, zero, suc, Bool, true, false, cond, ◌||◌, ◌==◌, List, [], ◌∷◌, ◌++◌, map, refl, sym, ap, ◌∙◌, subst, arith, eq-eqb, bytes_eq, nat_lt, Some, None, Option}
 use Rattle.std.specs.Prelude.{option_map}
 use Rattle.std.specs.Ordering.{nat_cmp, is_lt, is_le, ordering_then, ordering_reverse}
 use Rattle.std.specs.declared.cmp.Ordering.TheVariants.{Less, Equal, Greater}
@@ -25,7 +25,7 @@ use Rattle.mt_chain.specs.Effect.{op_key, effect, any_tag, cause_on, left_by}
 use Rattle.mt_chain.proofs.KeyLaws.{text_true}
 use Rattle.mt_chain.proofs.PutLaws.{Each, Held}
 use Rattle.mt_meta.specs.Markers.{marker_key}
-use Rattle.mt_meta.specs.Logical.{Pair, old_at, new_at, old_state_at, new_state_at}
+use Rattle.mt_meta.specs.Logical.{Pair, old_at, old_state_at, new_state_at}
 use Rattle.mt_meta.specs.Sound.{AreTags, IsSound}
 use Rattle.mt_meta.specs.Modes.{Mode, Empty, AtOld, Prepared, Copying, Overlaid, Settled, NewOnly, Broken, mode}
 use Rattle.mt_meta.specs.declared.fact.Keys.TheVariants as keys

@@ -1,29 +1,19 @@
 -- The tags of a written batch: those of its puts are fresh and differ, and those of its deletes are of the rows that went.
-use Rattle.std.proofs.Common.{◌≡◌, ◌≢◌, ℕ, suc, ◌+◌, ◌<◌, ◌≤◌, Bool, true, false, cond, ◌&&◌, nat_eq, eq-eqb, ne_eqb, List, [], ◌∷◌, map, filter, length, refl, sym, ap, ◌∙◌, subst, arith, Some, None, Option, Ok, Err}
+use Rattle.std.proofs.Common.{◌≡◌, ◌≢◌, ℕ, suc, ◌<◌, ◌≤◌, Bool, true, false, cond, ◌&&◌, nat_eq, eq-eqb, List, [], ◌∷◌, map, filter, length, refl, sym, ap, ◌∙◌, subst, arith, Some, None, Option}
 use Rattle.std.specs.Prelude.{option_map}
 use Rattle.std.specs.List.{zip, AllByRecursion, AllPairs, IsDistinct}
 use Rattle.std.specs.List.Sorted.{IsPermutation}
-use Rattle.std.specs.Result.{result_err}
 use Rattle.std.proofs.lemmas.List.Elements.{All-from_recursion, recursion_from_All}
 use Rattle.std.proofs.lemmas.List.Sorted.{All-permutation, IsPermutation-sym}
 use Rattle.std.proofs.lemmas.List.Kept.{AllPairs-cons}
-use Rattle.std.proofs.lemmas.Map.Keys.{IsDistinct-IsPermutation}
 use Rattle.mt_model.specs.declared.key.Key.{Key}
 use Rattle.mt_model.specs.declared.tag.Tag.{Tag}
-use Rattle.mt_model.specs.declared.value.Prop.{Prop}
 use Rattle.mt_chain.specs.declared.row.Stored.{Stored}
-use Rattle.mt_chain.specs.declared.row.StoredRow.{StoredRow}
-use Rattle.mt_chain.specs.declared.row.Put.{Put}
 use Rattle.mt_chain.specs.declared.op.Op.{Op}
 use Rattle.mt_chain.specs.declared.op.Op.TheVariants.{Insert, Replace, Merge, Delete, InsertOrReplace, InsertOrMerge}
-use Rattle.mt_chain.specs.declared.op.Cause.{Cause}
-use Rattle.mt_chain.specs.declared.op.Cause.TheVariants.{ConditionFailed}
-use Rattle.mt_model.specs.Merge.{merged}
 use Rattle.mt_chain.specs.Table.{Table}
-use Rattle.mt_chain.specs.Puts.{tag_of, tags_of, next_tag, counter_after, all_counter_after}
-use Rattle.mt_chain.specs.Effect.{Outcome, op_key, meets, writes, limits_cause, unless_refused, merges, effect, any_tag, cause_on, left_by, told_tag}
+use Rattle.mt_chain.specs.Effect.{op_key, effect, cause_on, left_by, told_tag}
 use Rattle.mt_chain.specs.Batch.{Tagged, cause_in, names, op_at, row_after, tags_answered}
-use Rattle.mt_chain.proofs.PutLaws.{counter_rises, counter_one}
 use Rattle.mt_history.specs.Legal.{is_write, tags_written, IsGone}
 
 -- ---- the tags that a client is told

@@ -1,10 +1,10 @@
 -- The operations of a batch: in the order of their row keys, and by the keys that they name.
-use Rattle.std.proofs.Common.{◌≡◌, ◌≢◌, ℕ, Bool, true, false, ◌||◌, List, [], ◌∷◌, map, refl, sym, ap, ◌∙◌, arith, bytes_eq, Option, Some, None, All}
+use Rattle.std.proofs.Common.{◌≡◌, ◌≢◌, ℕ, Bool, true, false, ◌||◌, List, [], ◌∷◌, refl, sym, ap, ◌∙◌, arith, bytes_eq, Option, Some, None, All}
 use Rattle.std.specs.List.{AllByRecursion}
 use Rattle.std.proofs.lemmas.List.Elements.{All-from_recursion, recursion_from_All}
 use Rattle.std.proofs.lemmas.List.Sorted.{All-permutation, IsPermutation-sym, list_any-IsPermutation}
 use Rattle.mt_model.specs.declared.key.KeyPart.TheVariants.{Partition, Row}
-use Rattle.mt_model.specs.Key.{part_fault, key_fault}
+use Rattle.mt_model.specs.Key.{part_fault}
 use Rattle.mt_chain.specs.declared.op.Op.{Op}
 use Rattle.mt_chain.specs.Effect.{op_key}
 use Rattle.mt_chain.proofs.KeyLaws.{text_same}

@@ -1,5 +1,5 @@
 -- What a batch call makes of replies, for those who take turns with it: they need not know its places.
-use Rattle.std.proofs.Common.{◌≡◌, ℕ, Bool, true, false, List, length, refl, sym, ap, ◌∙◌, subst, Option, Some, None, Ok, Err}
+use Rattle.std.proofs.Common.{◌≡◌, Bool, true, false, List, length, refl, ap, ◌∙◌, subst, Option, Some, None, Ok, Err}
 use Rattle.mt_model.specs.declared.text.NoMemory.{NoMemory}
 use Rattle.mt_model.specs.declared.tag.Tag.{Tag}
 use Rattle.mt_chain.specs.declared.op.Op.{Op}

@@ -1,13 +1,12 @@
 -- Steps of a batch over a pair of stores in which nothing moves: a call ends in two of them.
-use Rattle.std.proofs.Common.{◌≡◌, ◌⊎◌, ℕ, Bool, true, false, List, [], ◌∷◌, map, refl, sym, ap, ◌∙◌, subst, inl, inr, Some, None, Option, option_map, Ok}
+use Rattle.std.proofs.Common.{◌≡◌, ◌⊎◌, ℕ, Bool, true, false, List, ◌∷◌, map, refl, sym, ap, ◌∙◌, subst, inl, inr, Some, None, Option, option_map, Ok}
 use Rattle.std.specs.Prelude.{is_none}
-use Rattle.std.specs.List.{AllByRecursion}
 use Rattle.mt_model.specs.declared.tag.Tag.{Tag}
 use Rattle.mt_chain.specs.declared.row.Stored.{Stored}
 use Rattle.mt_chain.specs.declared.row.StoredRow.{StoredRow}
 use Rattle.mt_chain.specs.declared.row.Put.{Put}
 use Rattle.mt_chain.specs.declared.row.Put.TheVariants as put
-use Rattle.mt_chain.specs.declared.ask.Side.TheVariants.{Old, New}
+use Rattle.mt_chain.specs.declared.ask.Side.TheVariants.{Old}
 use Rattle.mt_chain.specs.declared.query.PkFrom.{PkFrom}
 use Rattle.mt_chain.specs.declared.op.Op.{Op}
 use Rattle.mt_chain.specs.declared.op.Refusal.{Refusal}
@@ -30,12 +29,11 @@ use Rattle.mt_meta.specs.Markers.{marker_key, old_phase_of}
 use Rattle.mt_meta.specs.Logical.{Pair, NoOld, AtUseOld, old_says, old_state, new_state, old_at, old_state_at}
 use Rattle.mt_meta.specs.Sound.{IsSound}
 use Rattle.mt_meta.specs.declared.fact.Keys.{Keys}
-use Rattle.mt_meta.specs.Facts.{KnowsTurned, KnowsClosed, is_in, is_marked}
+use Rattle.mt_meta.specs.Facts.{KnowsTurned, KnowsClosed, is_marked}
 use Rattle.mt_meta.specs.Steps.{AllHold, PairMeans}
 use Rattle.mt_meta.proofs.Growth.{no_rows}
 use Rattle.mt_batch_plan.specs.declared.basis.Basis.{Basis}
 use Rattle.mt_batch_plan.specs.declared.basis.Basis.TheVariants.{OldRows, OldBirth, Overlay, NewRows, NewBirth}
-use Rattle.mt_batch_plan.specs.declared.place.AfterOld.TheVariants.{Turned, Closed}
 use Rattle.mt_batch_plan.specs.declared.place.Place.{Place}
 use Rattle.mt_batch_plan.specs.declared.place.Place.TheVariants.{ReadOld, ReadNew, Write}
 use Rattle.mt_batch_plan.specs.declared.call.BatchProgress.{BatchProgress}
@@ -45,7 +43,7 @@ use Rattle.mt_batch_plan.specs.Calls.{writes, AreNames, IsInOrder, Asks, decided
 use Rattle.mt_batch_plan.specs.Unmoved.{IsAtUseOld, IsUnmoved, StaysInOld, BasisStands, StandsOn}
 use Rattle.mt_batch_plan.proofs.BatchLaw.{stays_same, new_same, made_by, batch_law, saw_is}
 use Rattle.mt_batch_plan.proofs.OpLaws.{all_sorted, each_key, marker_named, key_named}
-use Rattle.mt_batch_plan.proofs.OnRead.{contents_of, number_of, with_store, read_at, kept_at, has_itself, puts_hold}
+use Rattle.mt_batch_plan.proofs.OnRead.{with_store, read_at, kept_at, has_itself, puts_hold}
 use Rattle.mt_batch_plan.proofs.WriteLaws.{WasMade, rows_change, old_birth_change}
 
 -- ---- nothing moves in a step

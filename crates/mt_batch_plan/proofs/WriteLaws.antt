@@ -1,5 +1,5 @@
 -- A write of a batch, made on what its place knows, is the batch, whatever store it is made in.
-use Rattle.std.proofs.Common.{◌≡◌, ◌≢◌, ℕ, ◌+◌, ◌≤◌, ◌<◌, Bool, true, false, List, [], ◌∷◌, map, refl, sym, ap, ◌∙◌, subst, arith, inl, inr, Some, None, Option, option_map, All}
+use Rattle.std.proofs.Common.{◌≡◌, ◌≢◌, ℕ, ◌+◌, ◌≤◌, ◌<◌, Bool, true, false, List, [], ◌∷◌, map, refl, sym, ap, ◌∙◌, subst, arith, inl, inr, Some, None, Option, option_map}
 use Rattle.std.specs.List.{AllByRecursion, zip}
 use Rattle.std.proofs.lemmas.List.Elements.{All-from_recursion}
 use Rattle.mt_model.specs.declared.tag.Tag.{Tag}
@@ -20,7 +20,6 @@ use Rattle.mt_chain.proofs.PutLaws.{Each, each_held, counter_one}
 use Rattle.mt_chain.proofs.JudgeLaws.{was_done}
 use Rattle.mt_chain.proofs.Theorems.{none_refuses}
 use Rattle.mt_rules.specs.Batches.{IsBatch, partition_of}
-use Rattle.mt_meta.specs.declared.marker.NewPhase.{NewPhase}
 use Rattle.mt_meta.specs.declared.marker.NewPhase.TheVariants.{Filling, UseNew}
 use Rattle.mt_meta.specs.declared.fact.Keys.TheVariants as keys
 use Rattle.mt_meta.specs.declared.fact.Fact.{Fact}
@@ -28,10 +27,10 @@ use Rattle.mt_meta.specs.Markers.{marker_key, new_phase_of}
 use Rattle.mt_meta.specs.Logical.{Pair, AtFilling, old_at, new_state_at, logical}
 use Rattle.mt_meta.specs.Sound.{AreTags, IsSound}
 use Rattle.mt_meta.specs.Facts.{is_in, is_filling}
-use Rattle.mt_meta.specs.Steps.{as_row, AllHold, row_facts, logical_table, IsGivenBetween, IsFresh, StepIn}
+use Rattle.mt_meta.specs.Steps.{as_row, AllHold, logical_table, IsFresh, StepIn}
 use Rattle.mt_batch_plan.specs.declared.basis.Basis.{Basis}
 use Rattle.mt_batch_plan.specs.declared.basis.Basis.TheVariants.{OldRows, OldBirth, Overlay, NewRows, NewBirth}
-use Rattle.mt_batch_plan.specs.Bases.{kept_in, shown_on, seen_on, seen_by, stored_in, table_on, side_of, put_by, tag_or, marker_check, marker_birth, marker_birth_new, marker_put, is_write_marker, phase_in, IsMarked, row_keys, basis_facts}
+use Rattle.mt_batch_plan.specs.Bases.{kept_in, shown_on, seen_on, seen_by, stored_in, table_on, side_of, put_by, tag_or, marker_put, is_write_marker, phase_in, IsMarked, row_keys, basis_facts}
 use Rattle.mt_batch_plan.specs.Calls.{IsInOrder, AnswersTags}
 use Rattle.mt_batch_plan.specs.BatchSteps.{IsWritten}
 use Rattle.mt_batch_plan.proofs.OldChanges.{OldWrite, client_old, birth_old}

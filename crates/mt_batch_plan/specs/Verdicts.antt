@@ -13,7 +13,7 @@ use Rattle.mt_batch_plan.specs.declared.saw.Lead.{Lead}
 use Rattle.mt_batch_plan.specs.declared.saw.Lead.TheVariants as lead
 use Rattle.mt_batch_plan.specs.declared.saw.Seen.{Seen}
 use Rattle.mt_batch_plan.specs.declared.saw.Seen.TheVariants as seen
-use Rattle.mt_batch_plan.specs.Bases.{table_on, IsMarked}
+use Rattle.mt_batch_plan.specs.Bases.{IsMarked}
 use Rattle.mt_batch_plan.specs.Calls.{PlaceFits, begin, decide}
 use Rattle.mt_batch_plan.specs.Plans.{IsPlan, IsPlanned}
 

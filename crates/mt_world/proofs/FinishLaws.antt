@@ -1,14 +1,12 @@
 -- Turns one after the other, until a call ends.
 use Rattle.std.proofs.Common.{◌≡◌, ◌∙◌, ℕ, zero, suc, ◌+◌, ◌-◌, ◌^◌, ◌≤◌, ◌<◌, true, not, ◌&&◌, List, [], ◌∷◌, ◌++◌, length, nat_lt, refl, sym, ap, subst, arith, inl, inr, append_assoc, length-append, Option, Some, None, Result, Ok, Err}
 use Rattle.std.specs.Prelude.{nat_le, is_some}
-use Rattle.mt_model.specs.declared.tag.Tag.{Tag}
 use Rattle.mt_chain.specs.declared.op.Op.{Op}
 use Rattle.mt_chain.specs.declared.ask.Side.{Side}
 use Rattle.mt_chain.specs.declared.ask.Side.TheVariants.{Old, New}
 use Rattle.mt_chain.specs.declared.ask.Ask.{Ask}
 use Rattle.mt_chain.specs.declared.ask.StoreAsk.{StoreAsk}
 use Rattle.mt_chain.specs.declared.ask.StoreReply.{StoreReply}
-use Rattle.mt_chain.specs.declared.ask.StoreReply.TheVariants as reply
 use Rattle.mt_chain.specs.StoreCall.{Contents}
 use Rattle.mt_chain.specs.Store.{Store, Rose}
 use Rattle.mt_chain.specs.Batch.{batch_weight}
@@ -16,7 +14,6 @@ use Rattle.mt_history.specs.declared.entry.Entry.{Entry}
 use Rattle.mt_history.specs.Weight.{total_weight}
 use Rattle.mt_history.specs.Window.{table_at_end}
 use Rattle.mt_history.specs.Replies.{Replies}
-use Rattle.mt_batch_plan.specs.declared.place.Place.{Place}
 use Rattle.mt_batch_plan.specs.declared.place.Place.TheVariants.{ReadOld}
 use Rattle.mt_batch_plan.specs.declared.call.BatchProgress.{BatchProgress}
 use Rattle.mt_batch_plan.specs.declared.call.BatchProgress.TheVariants as batch
@@ -34,7 +31,7 @@ use Rattle.mt_world.specs.declared.actor.Progress.TheVariants.{More, Done}
 use Rattle.mt_world.specs.declared.actor.TurnFault.{TurnFault}
 use Rattle.mt_world.specs.declared.actor.TurnFault.TheVariants.{StoreFault, HistoryFull, NoMemory}
 use Rattle.mt_world.specs.Worlds.{WorldState, pair_of, ForPair, Tells, IsReplayed, IsWorld, table_now, next_number, entry_of}
-use Rattle.mt_world.specs.Moves.{NewEntry, Move, BatchMoves, batch_move, CanStep, ActorFits, IsAtBegin, turns_at_most, fault_entry, retired_by}
+use Rattle.mt_world.specs.Moves.{NewEntry, Move, BatchMoves, batch_move, CanStep, ActorFits, IsAtBegin, turns_at_most, retired_by}
 use Rattle.mt_world.specs.Logs.{Adds, entries_with}
 use Rattle.mt_world.specs.Turns.{Stage, stage_of, log_of, CallsOn, OneCall, Moves, is_full, RepliesAt, IsSameWorld, Turns, EitherRose}
 use Rattle.mt_world.specs.WholeCalls.{Mark, MarkedTurn, last_turn, Finishes, EndsCall, end_of, batch_entry, AreMarksAt, BatchAnswers}

@@ -1,7 +1,6 @@
 -- A turn keeps the world, and does what it is to do: proved once for any actor whose step is one of the law for every step.
-use Rattle.std.proofs.Common.{◌≡◌, ◌∙◌, ◌⊎◌, ℕ, ◌+◌, ◌-◌, ◌^◌, ◌≤◌, ◌<◌, Bool, true, false, ◌&&◌, nat_lt, List, [], ◌∷◌, length, refl, sym, ap, subst, arith, inl, inr, IsTrue, Option, Some, None, Result, Ok, Err, if◌then◌else◌}
-use Rattle.std.specs.Prelude.{min, IsSome, not, nat_le}
-use Rattle.std.proofs.lemmas.Bool.Decides.{nat_tests}
+use Rattle.std.proofs.Common.{◌≡◌, ◌∙◌, ◌⊎◌, ℕ, ◌+◌, ◌-◌, ◌^◌, ◌≤◌, ◌<◌, Bool, true, false, ◌&&◌, List, ◌∷◌, refl, sym, ap, subst, arith, inl, inr, IsTrue, Option, Some, None, Result, Ok, Err, if◌then◌else◌}
+use Rattle.std.specs.Prelude.{IsSome, not}
 use Rattle.mt_model.specs.declared.entity.Entity.{Entity}
 use Rattle.mt_chain.specs.declared.ask.Side.{Side}
 use Rattle.mt_chain.specs.declared.ask.Side.TheVariants.{Old, New}
@@ -13,24 +12,19 @@ use Rattle.mt_chain.specs.declared.ask.CallFault.TheVariants as call_fault
 use Rattle.mt_chain.specs.Rows.{are_rising}
 use Rattle.mt_chain.specs.StoreCall.{Contents}
 use Rattle.mt_chain.specs.Store.{Store, Rose, Same}
-use Rattle.mt_chain.specs.Table.{IsSameTable, rows_of}
-use Rattle.mt_chain.specs.Batch.{refusal_of}
-use Rattle.mt_history.specs.declared.entry.What.{What}
-use Rattle.mt_history.specs.declared.entry.What.TheVariants as what
-use Rattle.mt_history.specs.declared.entry.Entry.{Entry}
-use Rattle.mt_history.specs.Kept.{Kept, has_room}
-use Rattle.mt_history.specs.Weight.{total_weight}
+use Rattle.mt_chain.specs.Table.{rows_of}
+use Rattle.mt_history.specs.Kept.{has_room}
 use Rattle.mt_history.specs.Replies.{Replies, refusal_reply}
 use Rattle.mt_meta.specs.Logical.{Pair}
 use Rattle.mt_meta.specs.Sound.{IsSound}
 use Rattle.mt_meta.specs.declared.fact.Fact.{Fact}
-use Rattle.mt_meta.specs.Facts.{Holds, ApartFrom}
-use Rattle.mt_meta.specs.Steps.{logical_table, AllHold, IsEmptied, ActorStep, PairMeans}
-use Rattle.mt_meta.proofs.Growth.{grows_self, fact_kept}
+use Rattle.mt_meta.specs.Facts.{ApartFrom}
+use Rattle.mt_meta.specs.Steps.{logical_table, AllHold, ActorStep, PairMeans}
+use Rattle.mt_meta.proofs.Growth.{grows_self}
 use Rattle.mt_meta.proofs.Actors.{others_kept}
 use Rattle.mt_batch_plan.specs.declared.call.BatchProgress.{BatchProgress}
 use Rattle.mt_batch_plan.specs.declared.call.BatchProgress.TheVariants as batch
-use Rattle.mt_batch_plan.specs.Calls.{Call, CallFits, Asks, Absorbs, place_facts, call_facts}
+use Rattle.mt_batch_plan.specs.Calls.{Call, CallFits, Asks, place_facts, call_facts}
 use Rattle.mt_batch_plan.specs.BatchSteps.{Does}
 use Rattle.mt_batch_plan.specs.Unmoved.{IsUnmoved}
 use Rattle.mt_batch_plan.proofs.BatchLaw.{batch_law}
@@ -41,13 +35,13 @@ use Rattle.mt_world.specs.declared.actor.Actor.TheVariants.{Client}
 use Rattle.mt_world.specs.declared.actor.Progress.{Progress}
 use Rattle.mt_world.specs.declared.actor.TurnFault.{TurnFault}
 use Rattle.mt_world.specs.declared.actor.TurnFault.TheVariants.{StoreFault, HistoryFull, NoMemory}
-use Rattle.mt_world.specs.Worlds.{WorldState, pair_of, ForPair, Tells, IsTrueOf, AreTrueOf, KeepsApart, table_now, next_number, number_due, is_fault, faults_in, entry_of, IsReplayed, AreCounted, IsWorld}
+use Rattle.mt_world.specs.Worlds.{WorldState, pair_of, ForPair, Tells, IsTrueOf, AreTrueOf, KeepsApart, table_now, next_number, number_due, faults_in, entry_of, IsReplayed, AreCounted, IsWorld}
 use Rattle.mt_world.specs.Moves.{NewEntry, Move, BatchMoves, batch_move, ActorFits, ActorAsks, ActorMoves, actor_facts, need_of, after_fault, fault_entry, retired_by}
-use Rattle.mt_world.specs.Logs.{Log, raised, Adds, faults_with, faults_after, entries_with, number_of_next}
+use Rattle.mt_world.specs.Logs.{raised, Adds, faults_after}
 use Rattle.mt_world.specs.Turns.{Stage, log_of, stage_of, CallsOn, OneCall, NoCall, CalledInVain, Moves, IsCalledOn, RiseTogether, TakesTurn, TakesSomeTurn, RepliesAt, Knows, IsSameWorld, Turns, Turned}
 use Rattle.mt_world.proofs.PairLaws.{told_before, for_pair, at_pair, same_pair, IsQuiet, quiet_tells, Before, before, called_tells, failed_quiet, failed_rose, IsCalled, called, not_called, stays_same}
 use Rattle.mt_world.proofs.LogLaws.{due_step, counted_with, room_few}
-use Rattle.mt_world.proofs.EntryLaws.{Still, SaysOf, EntryDoes, IsStepped, replay_on, replies_same, counts_on, counts_rise}
+use Rattle.mt_world.proofs.EntryLaws.{EntryDoes, replay_on, replies_same, counts_on, counts_rise}
 
 -- ---- the step of each actor, by the law of its machine
 
