@@ -2,10 +2,12 @@
 #![tactic(auto)]
 
 mod asks;
+mod closing;
 mod batch;
 mod connection;
 mod refusals;
 mod reply;
+mod routes;
 
 pub use asks::{Asked, Echo, asked_by};
 pub use batch::batch_of;
