@@ -3,6 +3,7 @@ mod BodyKeyLaws
 mod CallLaws
 mod CameLaws
 pub mod CauseLaws
+mod ClosingLaws
 pub mod FitLaws
 mod OwnLaws
 mod RefusalLaws
@@ -10,3 +11,4 @@ mod ReplyLaws
 mod RouteLaws
 mod SpellLaws
 mod TalkLaws
+mod TurnLaws

@@ -148,10 +148,14 @@ full_reply = error_reply (codes "507 Insufficient Storage") (codes "HistoryFull"
 abbrev pub ends_head : List ℕ → Bool
 ends_head bytes = starts_with nat_eq bytes (codes "\r\n\r\n")
 
--- the reply with `Connection: close` as its last field
+-- the field that ends the connection, behind another
+abbrev pub close_field : List ℕ
+close_field = codes "\r\nConnection: close"
+
+-- the reply with that field behind its last one, which an empty line follows
 abbrev pub closing : List ℕ → List ℕ
-closing [] = []
-closing (c ∷ cs) = if ends_head (c ∷ cs) then codes "\r\nConnection: close" ++ (c ∷ cs) else c ∷ closing cs
+closing [] = close_field
+closing (c ∷ cs) = if ends_head (c ∷ cs) then close_field ++ (c ∷ cs) else c ∷ closing cs
 
 -- the reply as it is written, where the connection goes on behind it or ends
 abbrev pub sent_as : Bool → List ℕ → List ℕ

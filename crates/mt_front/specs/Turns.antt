@@ -12,12 +12,14 @@ use Rattle.mt_http_in.specs.declared.InFault.{InFault}
 use Rattle.mt_http_in.specs.declared.InFault.TheVariants as fault
 use Rattle.mt_http_in.specs.declared.requests.Incoming.{Incoming}
 use Rattle.mt_http_in.specs.Fields.{keeps_open}
-use Rattle.mt_http_in.specs.Reading.{ahead, Closes, Ended}
+use Rattle.mt_http_in.specs.Reading.{ahead, Later, Closes, Ended as EndsReads}
 use Rattle.mt_http_in.specs.Heads.{fields_of}
 use Rattle.mt_http_in.specs.Requests.{Refuses, Got, BrokeIn, BrokeOut}
 use Rattle.mt_front.specs.declared.asks.Asked.{Asked}
 use Rattle.mt_front.specs.declared.asks.Asked.TheVariants as asked
 use Rattle.mt_front.specs.declared.asks.Echo.{Echo}
+use Rattle.mt_front.specs.declared.connection.End.{End}
+use Rattle.mt_front.specs.declared.connection.Served.{Served}
 use Rattle.mt_front.specs.declared.connection.End.TheVariants.{Input as AtEnd, Closed, BadInput}
 use Rattle.mt_front.specs.declared.connection.ConnFault.{ConnFault}
 use Rattle.mt_front.specs.declared.connection.ConnFault.TheVariants.{ReadFault, WriteFault, NoMemory}
@@ -181,6 +183,12 @@ pub record OneMore (c : ℕ) (table kept : List ℕ) (s : Input) (o : Output) (w
   pub keep_is : keep ≡ keeps_open head.minor (fields_of head)
   pub answering : Answering c w between asks keep r w' x
 
+-- a connection that ended so behind these answers; the reply that closes it counts, too
+abbrev pub served_of : ℕ → End → Served
+served_of answered AtEnd = record { requests = answered; «end» = AtEnd }
+served_of answered Closed = record { requests = answered + 1; «end» = Closed }
+served_of answered BadInput = record { requests = answered + 1; «end» = BadInput }
+
 -- what is left is refused, and with the refusal these bytes are owed
 pub record IsRefusal (kept : List ℕ) (s : Input) (owed : List ℕ) (t : Input) : Type 0 where
   pub code : Code
@@ -188,7 +196,7 @@ pub record IsRefusal (kept : List ℕ) (s : Input) (owed : List ℕ) (t : Input)
   pub closes : Closes code
   pub refuses : IfSome (ahead kept s) (λ all. Refuses all code said)
   pub owed_is : owed ≡ said ++ closing (bad_reply (head_refusal code))
-  pub ended : Ended s t
+  pub ended : EndsReads s t
 
 -- there was no memory, and nothing was written but a 100 Continue
 pub record StarvedAt (known : Option (List ℕ)) (o x : Output) : Type 0 where
@@ -208,6 +216,6 @@ TurnAs c table kept s o w (Err WriteFault) kept' t x w' =
 TurnAs c table kept s o w (Err NoMemory) kept' t x w' = LeavesNothing w w' × StarvedAt (ahead kept s) o x
 
 pub record SessionTurn (c : ℕ) (table kept : List ℕ) (s : Input) (o : Output) (w : WorldState) (r : Result Turn ConnFault) (kept' : List ℕ) (t : Input) (x : Output) (w' : WorldState) : Type 0 where
-  pub faults : s.faults ≤ t.faults
+  pub later : Later s t
   pub faults_out : o.faults ≤ x.faults
   pub turn : TurnAs c table kept s o w r kept' t x w'

@@ -236,19 +236,14 @@ fn entity_by(
 }
 
 /// What a request of that route asks for.
-fn asked_on(
-    alloc: Global,
-    at: Route,
-    fields: &[Field],
-    bytes: &[u8],
-) -> Result<Asked, NoMemory>
+fn asked_on(alloc: Global, at: Route, fields: &[Field], bytes: &[u8]) -> Result<Asked, NoMemory>
     ensures asks { IfOk result (λ a. (m : IfMatch) × IsMatch fields.now m × AsksOn at m (prefers_no_content fields.now) bytes.now a) }
     ensures may { IfOk result CanTry }
 {
+    let if_match = read_match(fields);
     match at {
         Route::Table => insert_by(alloc, prefers_no_content(fields), bytes),
         Route::Entity { action, pk, rk } => {
-            let if_match = read_match(fields);
             entity_by(alloc, action, if_match, pk.as_str(), rk.as_str(), bytes)
         }
     }

@@ -204,10 +204,8 @@ fn turn_refused(code: Code, close: bool) -> Turn
     ensures { result ≡ turn_refused code close }
 {
     match code {
-        Code::InvalidHead
-        | Code::InvalidFraming
-        | Code::RequestBodyTooLarge
-        | Code::InvalidBody => Turn::Ended(End::BadInput),
+        Code::InvalidHead | Code::InvalidFraming | Code::RequestBodyTooLarge | Code::InvalidBody =>
+            Turn::Ended(End::BadInput),
         Code::CompressedBody => turn_behind(!close),
     }
 }
@@ -255,7 +253,7 @@ fn take_turn<K: Keeper, S: Source, T: Sink>(
 }
 
 /// A connection that ended so behind these answers. The reply that closes it counts, too.
-fn served(answered: u64, end: End) -> Served
+fn served_of(answered: u64, end: End) -> Served
     requires { answered + 1 < 2 ^ 64 }
     ensures { result ≡ served_of answered end }
 {
@@ -293,7 +291,7 @@ pub fn session<K: Keeper, S: Source, T: Sink>(
     'requests: for requests in 0..u64::MAX {
         match take_turn(alloc, world, table, &mut reader, source, sink) {
             Ok(Turn::Answered) => {}
-            Ok(Turn::Ended(end)) => return Ok(served(requests, end)),
+            Ok(Turn::Ended(end)) => return Ok(served_of(requests, end)),
             Err(fault) => return Err(fault),
         }
     }
