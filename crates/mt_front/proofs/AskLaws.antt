@@ -1,5 +1,5 @@
 -- What is asked for, and that it can be tried.
-use Rattle.std.proofs.Common.{◌≡◌, ℕ, ◌≤◌, false, List, Option, Some, None, Result, Ok, Err, IfOk, refl, sym, ap₂, subst, inl, inr}
+use Rattle.std.proofs.Common.{◌≡◌, ℕ, ◌≤◌, false, List, Option, Some, None, Result, Ok, Err, IfOk, refl, sym, ap₂, subst, inr}
 use Rattle.std.specs.Prelude.{MatchOption, IsOkUnless}
 use Rattle.std.specs.List.{list_any}
 use Rattle.mt_model.specs.declared.value.Prop.{Prop}
@@ -13,18 +13,17 @@ use Rattle.mt_model.specs.Props.{visible_size}
 use Rattle.mt_chain.specs.declared.op.Cond.{Cond}
 use Rattle.mt_chain.specs.declared.op.Op.{Op}
 use Rattle.mt_chain.specs.Rows.{key_at}
-use Rattle.mt_http_in.specs.declared.fields.Field.{Field}
 use Rattle.mt_front.specs.declared.routes.Action.{Action}
 use Rattle.mt_front.specs.declared.routes.IfMatch.{IfMatch}
 use Rattle.mt_front.specs.declared.routes.Route.{Route}
 use Rattle.mt_front.specs.declared.routes.Route.TheVariants as route
-use Rattle.mt_front.specs.Routes.{IsMatch, IsRoute, prefers_no_content}
+use Rattle.mt_front.specs.Routes.{IsRoute}
 use Rattle.mt_front.specs.declared.asks.Asked.{Asked}
 use Rattle.mt_front.specs.declared.asks.Asked.TheVariants.{Write, Refused}
 use Rattle.mt_front.specs.declared.asks.Echo.TheVariants.{Plain}
 use Rattle.mt_front.specs.declared.refusals.BadRequest.{BadRequest}
 use Rattle.mt_front.specs.declared.refusals.BadRequest.TheVariants.{NotImplemented}
-use Rattle.mt_front.specs.Asks.{KeyedBy, MatchedBy, AsksInsert, AsksAction, AsksOn, Request, RequestAsks, CanTry, match_refusal, condition_of, put_op, merge_op}
+use Rattle.mt_front.specs.Asks.{KeyedBy, MatchedBy, AsksAction, AsksOn, Request, RequestAsks, CanTry, match_refusal, condition_of, put_op, merge_op}
 
 -- ---- what may be tried
 

@@ -1,7 +1,6 @@
 -- A target is spelled in one way: the table's name, and the keys that follow it.
-use Rattle.std.proofs.Common.{◌≡◌, ◌≢◌, ℕ, ◌<◌, Bool, true, false, not, List, [], ◌∷◌, ◌++◌, length, map, drop, Option, Some, None, Result, Ok, Err, refl, sym, ap, ◌∙◌, arith, append_assoc, codes, inl, inr, rules, subst}
+use Rattle.std.proofs.Common.{◌≡◌, ℕ, ◌<◌, Bool, true, false, not, List, [], ◌∷◌, ◌++◌, length, map, drop, Option, Some, None, Result, Ok, Err, refl, sym, ap, ◌∙◌, arith, append_assoc, codes, rules, subst}
 use Rattle.std.specs.Prelude.{◌&&◌, ◌==◌, All, nat_eq}
-use Rattle.std.specs.List.{list_all}
 use Rattle.std.specs.Char.{to_ascii_lowercase, is_ascii_alphanumeric}
 use Rattle.std.specs.Cmp.Lexicographic.{as_long}
 use Rattle.std.specs.Str.{IsUtf8}
@@ -13,11 +12,8 @@ use Rattle.std.proofs.lemmas.Bool.Decides.{Decides-eqb}
 use Rattle.std.proofs.Math.Seq.{drop-append_seam}
 use Rattle.mt_model.specs.declared.text.NoMemory.{NoMemory as NoRoom}
 use Rattle.mt_model.specs.TableName.{is_same_table}
-use Rattle.mt_front.specs.declared.routes.Action.{Action}
-use Rattle.mt_front.specs.declared.routes.Action.TheVariants.{Put, Merge, Delete}
 use Rattle.mt_front.specs.declared.routes.Route.{Route}
-use Rattle.mt_front.specs.declared.routes.Route.TheVariants as route
-use Rattle.mt_front.specs.Routes.{is_plain_key, HasTable, print_keys, AreKeys, IsAction, EndsAs, IsRoute, Found, HasNoTable, stops, IsRun}
+use Rattle.mt_front.specs.Routes.{is_plain_key, HasTable, print_keys, AreKeys, EndsAs, IsRoute, Found, HasNoTable, stops, IsRun}
 
 -- ---- runs of letters and digits
 

@@ -2,10 +2,10 @@
 use Rattle.std.proofs.Common.{◌≡◌, ℕ, ◌+◌, ◌-◌, ◌≤◌, true, false, List, [], ◌∷◌, ◌++◌, length, Option, Some, None, Ok, Err, refl, sym, ap, ◌∙◌, arith, subst, append_assoc, append-nil, length-append, inl, inr}
 use Rattle.std.specs.Prelude.{Result, Bool, IfSome, ◌⊎◌}
 use Rattle.std.proofs.lemmas.List.Elements.{All-nil, All-cons, All-append}
-use Rattle.httparse.specs.Grammar.{RequestHead, print_request}
-use Rattle.mt_io.specs.Ends.{Input, Output, Rose, before_known, after_known}
+use Rattle.httparse.specs.Grammar.{print_request}
+use Rattle.mt_io.specs.Ends.{Input, Output, before_known}
 use Rattle.mt_io.proofs.Pieces.{before_nothing, after_nothing}
-use Rattle.mt_http_in.specs.Reading.{ahead, Later, Spent, Failed, Ended as EndsReads}
+use Rattle.mt_http_in.specs.Reading.{ahead, Later, Spent, Failed}
 use Rattle.mt_http_in.specs.Requests.{continue_of, BrokeIn, BrokeOut}
 use Rattle.mt_http_in.proofs.FillLaws.{later_then, spent_then, failed_then, ended_then}
 use Rattle.mt_history.specs.declared.entry.Entry.{Entry}
@@ -21,8 +21,8 @@ use Rattle.mt_front.specs.Asks.{WholeAsks, request_by}
 use Rattle.mt_front.specs.Items.{Item, IsRendered, AllKeep, LastCloses}
 use Rattle.mt_front.specs.Answers.{FitsFrom, IsCaused, AreCaused, past_end}
 use Rattle.mt_front.specs.Spells.{SpellsAll}
-use Rattle.mt_front.specs.Session.{Sent, Cut, past_of, counts_of, Added, Talk, Course, IsCourse, IsRefused, IsSaid, SessionAs, Serves}
-use Rattle.mt_front.specs.Turns.{LeavesNothing, CameOut, OneMore, IsRefusal, TurnAs, SessionTurn, served_of}
+use Rattle.mt_front.specs.Session.{Sent, Cut, past_of, counts_of, Added, Talk, Course, IsCourse, IsRefused, SessionAs, Serves}
+use Rattle.mt_front.specs.Turns.{LeavesNothing, CameOut, OneMore, IsRefusal, SessionTurn, served_of}
 use Rattle.mt_front.proofs.FitLaws.{fits_sooner, fits_join}
 use Rattle.mt_front.proofs.CameLaws.{same_self, same_then, told_self, told_then, tells_before, past_grown, added_self, fits_none}
 use Rattle.mt_front.proofs.CauseLaws.{caused_more}

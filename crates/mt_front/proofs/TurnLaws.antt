@@ -1,17 +1,17 @@
 -- How a request was answered, and what one turn of a session did.
-use Rattle.std.proofs.Common.{◌≡◌, ℕ, ◌+◌, ◌≤◌, Bool, true, false, not, List, [], ◌++◌, Option, Ok, Err, refl, sym, ap, ◌∙◌, arith, subst, append_assoc, append-nil, inl, inr}
-use Rattle.std.specs.Prelude.{Result, Some, None}
+use Rattle.std.proofs.Common.{◌≡◌, ℕ, ◌≤◌, Bool, true, false, not, List, [], ◌++◌, Ok, Err, refl, sym, ap, ◌∙◌, arith, subst, append_assoc, inl, inr}
+use Rattle.std.specs.Prelude.{Result, Some}
 use Rattle.httparse.specs.Grammar.{RequestHead, print_request}
 use Rattle.mt_io.specs.Ends.{Input, Output, Rose, before_known, after_known}
-use Rattle.mt_io.proofs.Pieces.{after_after, after_nothing, before_before}
+use Rattle.mt_io.proofs.Pieces.{after_after, before_before}
 use Rattle.mt_http_in.specs.declared.Code.{Code}
 use Rattle.mt_http_in.specs.declared.Code.TheVariants.{InvalidHead, InvalidFraming, RequestBodyTooLarge, InvalidBody, CompressedBody}
 use Rattle.mt_http_in.specs.declared.InFault.{InFault}
 use Rattle.mt_http_in.specs.declared.InFault.TheVariants as fault
 use Rattle.mt_http_in.specs.declared.requests.Incoming.{Incoming}
-use Rattle.mt_http_in.specs.Fields.{is_packed, keeps_open}
+use Rattle.mt_http_in.specs.Fields.{keeps_open}
 use Rattle.mt_http_in.specs.Heads.{fields_of}
-use Rattle.mt_http_in.specs.Reading.{ahead, Later, Closes, Spent}
+use Rattle.mt_http_in.specs.Reading.{ahead, Closes}
 use Rattle.mt_http_in.specs.Requests.{ReadsRequest, HoldsRequest, Got, Packed, Closed as ClosedBy, Starved, RefusedAs, continue_of}
 use Rattle.mt_http_in.specs.Requests as http
 use Rattle.mt_world.specs.Worlds.{WorldState}
@@ -23,17 +23,17 @@ use Rattle.mt_front.specs.declared.asks.Asked.TheVariants as asked
 use Rattle.mt_front.specs.declared.asks.Echo.{Echo}
 use Rattle.mt_front.specs.declared.connection.Outcome.{Outcome}
 use Rattle.mt_front.specs.declared.connection.Outcome.TheVariants as outcome
-use Rattle.mt_front.specs.declared.connection.End.TheVariants.{Input as AtEnd, Closed, BadInput}
+use Rattle.mt_front.specs.declared.connection.End.TheVariants.{BadInput}
 use Rattle.mt_front.specs.declared.connection.ConnFault.{ConnFault}
 use Rattle.mt_front.specs.declared.connection.ConnFault.TheVariants.{ReadFault, WriteFault, NoMemory}
 use Rattle.mt_front.specs.declared.connection.Turn.{Turn}
-use Rattle.mt_front.specs.declared.connection.Turn.TheVariants.{Answered, Ended}
+use Rattle.mt_front.specs.declared.connection.Turn.TheVariants.{Ended}
 use Rattle.mt_front.specs.Refusals.{head_refusal, bad_reply, cause_reply, fault_reply, full_reply, closing, sent_as}
 use Rattle.mt_front.specs.Replies.{IsDoneReply}
-use Rattle.mt_front.specs.Asks.{Request, RequestAsks, AsksUnpacked, WholeAsks, request_by, request_of}
+use Rattle.mt_front.specs.Asks.{RequestAsks, AsksUnpacked, request_by, request_of}
 use Rattle.mt_front.specs.Items.{Item, Bad, Renders, IsRendered, entries_of}
 use Rattle.mt_front.specs.Answers.{IsCaused}
-use Rattle.mt_front.specs.Session.{Sent, Cut, counts_of, Added, IsNext, IsSaid}
+use Rattle.mt_front.specs.Session.{Sent, Cut, counts_of, Added, IsSaid}
 use Rattle.mt_front.specs.Turns.{CameOut, Tries, outcome_of, tried_item, left_by, WritesReply, RepliedAs, Answering, AnswersAs, AnswersOne, AnswersWhole, AnswersWholeAs, AnswersRequest, RefusesAs, FaultedAs, AnswersFault, OneMore, IsRefusal, StarvedAt, TurnAs, SessionTurn, turn_behind, turn_refused, refusal_bytes, LeavesNothing}
 use Rattle.mt_front.proofs.CameLaws.{same_self, told_self, came_bad, caused_bad, added_self}
 

@@ -1,6 +1,6 @@
-use Rattle.std.proofs.Common.{◌≡◌, ◌++◌, List, ℕ, Err, sym, ap, ◌∙◌, append_assoc, subst}
+use Rattle.std.proofs.Common.{◌++◌, Err, subst}
 use Rattle.mt_io.specs.Ends.{Sends}
-use Rattle.mt_front.specs.Refusals.{close_field, closing}
+use Rattle.mt_front.specs.Refusals.{close_field}
 use Rattle.mt_front.proofs.ClosingLaws.{sends_then, sends_part, closing_parts}
 use Rattle.mt_front.proofs.closing.send_closing.Goals as goal
 
