@@ -1,5 +1,5 @@
 -- What is asked for, and that it can be tried.
-use Rattle.std.proofs.Common.{◌≡◌, ℕ, ◌≤◌, false, List, Option, Some, None, Result, Ok, Err, IfOk, refl, sym, ap₂, subst}
+use Rattle.std.proofs.Common.{◌≡◌, ℕ, ◌≤◌, false, List, Option, Some, None, Result, Ok, Err, IfOk, refl, sym, ap₂, subst, inr}
 use Rattle.std.specs.Prelude.{MatchOption, IsOkUnless}
 use Rattle.std.specs.List.{list_any}
 use Rattle.mt_model.specs.declared.value.Prop.{Prop}
@@ -13,15 +13,17 @@ use Rattle.mt_model.specs.Props.{visible_size}
 use Rattle.mt_chain.specs.declared.op.Cond.{Cond}
 use Rattle.mt_chain.specs.declared.op.Op.{Op}
 use Rattle.mt_chain.specs.Rows.{key_at}
-use Rattle.mt_plain.specs.declared.request.Action.{Action}
-use Rattle.mt_plain.specs.declared.request.IfMatch.{IfMatch}
-use Rattle.mt_plain.specs.declared.request.PlainRequest.{PlainRequest}
-use Rattle.mt_plain.specs.declared.request.Route.TheVariants as route
+use Rattle.mt_front.specs.declared.routes.Action.{Action}
+use Rattle.mt_front.specs.declared.routes.IfMatch.{IfMatch}
+use Rattle.mt_front.specs.declared.routes.Route.{Route}
+use Rattle.mt_front.specs.declared.routes.Route.TheVariants as route
+use Rattle.mt_front.specs.Routes.{IsRoute}
 use Rattle.mt_front.specs.declared.asks.Asked.{Asked}
-use Rattle.mt_front.specs.declared.asks.Asked.TheVariants.{Write}
+use Rattle.mt_front.specs.declared.asks.Asked.TheVariants.{Write, Refused}
 use Rattle.mt_front.specs.declared.asks.Echo.TheVariants.{Plain}
 use Rattle.mt_front.specs.declared.refusals.BadRequest.{BadRequest}
-use Rattle.mt_front.specs.Asks.{KeyedBy, MatchedBy, AsksInsert, AsksAction, AsksOn, RequestAsks, CanTry, match_refusal, condition_of, put_op, merge_op}
+use Rattle.mt_front.specs.declared.refusals.BadRequest.TheVariants.{NotImplemented}
+use Rattle.mt_front.specs.Asks.{KeyedBy, MatchedBy, AsksAction, AsksOn, Request, RequestAsks, CanTry, match_refusal, condition_of, put_op, merge_op}
 
 -- ---- what may be tried
 
@@ -68,8 +70,6 @@ entity_asks action m pk rk bytes key (Ok asked) readable answers pk_is rk_is h =
     (keyed (key_fault pk rk) then asked (no_fault (key_fault pk rk) key answers) (subst (λ k. AsksAction action (condition_of m) k bytes asked) same h))
 entity_asks action m pk rk bytes key (Err e) readable answers pk_is rk_is h = tt
 
-pub table_asks : (p : PlainRequest) (bytes : List ℕ) (r : Result Asked NoMemory) → p.route ≡ route.Table → bytes ≡ p.body
-    → IfOk r (AsksInsert p.no_content bytes) → IfOk r (RequestAsks p)
-table_asks p bytes (Ok asked) at body h =
-    subst (λ q. AsksOn q p.if_match p.no_content p.body asked) (sym at) (subst (λ bytes. AsksInsert p.no_content bytes asked) body h)
-table_asks p bytes (Err e) at body h = tt
+pub not_routed : (table : List ℕ) (q : Request) (method target : List ℕ) → ((at : Route) → IsRoute table method target at → ⊥) → method ≡ q.method → target ≡ q.target → RequestAsks table q (Refused NotImplemented)
+not_routed table q method target none m t =
+    inr (subst (λ k. (at : Route) → IsRoute table k q.target at → ⊥) m (subst (λ k. (at : Route) → IsRoute table method k at → ⊥) t none), refl)

@@ -1,6 +1,6 @@
 -- How an operation came out over a world.
 use Rattle.std.proofs.Common.{◌≡◌, ℕ, ◌-◌, true, false, List, [], ◌∷◌, ◌++◌, Option, Some, None, Err, refl, sym, ap, ◌∙◌, arith, subst, append-nil}
-use Rattle.std.specs.Prelude.{All, Result, is_some, IfSome}
+use Rattle.std.specs.Prelude.{All, Bool, Result, is_some, IfSome}
 use Rattle.std.specs.Option.{option_to_list}
 use Rattle.std.proofs.lemmas.List.{drop_all}
 use Rattle.std.proofs.lemmas.List.Elements.{All-nil, All-cons}
@@ -78,15 +78,15 @@ none_behind c past =
 pub fits_none : (c : ℕ) (T : Type 0) (past : Past) → FitsFrom c T past (past_end past) [] []
 fits_none c T past = record { marks = tt; no_batch = All-nil (λ (m : Mark). MayStay m.entry); behind_them = none_behind c past }
 
-pub came_bad : (c : ℕ) (w : WorldState) (r : BadRequest) (bytes : List ℕ) → CameOut c w (record { asks = asked.Refused r; outcome = Bad r; reply = bytes; marks = [] }) w
-came_bad c w r bytes = record {
+pub came_bad : (c : ℕ) (w : WorldState) (r : BadRequest) (keep : Bool) (bytes : List ℕ) → CameOut c w (record { asks = asked.Refused r; keep = keep; outcome = Bad r; reply = bytes; marks = [] }) w
+came_bad c w r keep bytes = record {
   same = same_self w;
   told = told_self w;
   fits = (record { marks = tt; room = tt }, fits_none c (Tells w) (past_of w));
 }
 
-pub caused_bad : (s : Counts) (r : BadRequest) (bytes : List ℕ) → IsCaused s (record { asks = asked.Refused r; outcome = Bad r; reply = bytes; marks = [] }) s
-caused_bad s r bytes = record { later = most_self s; rose = λ e. absurd (let h : false ≡ true = e in cc); still = λ e. refl }
+pub caused_bad : (s : Counts) (r : BadRequest) (keep : Bool) (bytes : List ℕ) → IsCaused s (record { asks = asked.Refused r; keep = keep; outcome = Bad r; reply = bytes; marks = [] }) s
+caused_bad s r keep bytes = record { later = most_self s; rose = λ e. absurd (let h : false ≡ true = e in cc); still = λ e. refl }
 
 -- ---- from the world's clause
 
@@ -119,10 +119,10 @@ tried c w w' op o marks r told a left full faulty still =
     let grew : w'.history.entries ≡ w.history.entries ++ own = a.entries ∙ more.1 in
     record {
       left = left_at (past_end (past_of w)) e marks a.marks_are ∙ left;
-      came = λ echo reply. record {
+      came = λ echo keep reply. record {
         same = a.same;
         told = told;
-        fits = subst (λ p. FitsFrom c (Tells w') p (past_end (past_of w)) (record { asks = asked.Write op echo; outcome = outcome_of o; reply = reply; marks = marks } ∷ []) []) (sym (past_grown w w' own a.same grew)) (
+        fits = subst (λ p. FitsFrom c (Tells w') p (past_end (past_of w)) (record { asks = asked.Write op echo; keep = keep; outcome = outcome_of o; reply = reply; marks = marks } ∷ []) []) (sym (past_grown w w' own a.same grew)) (
           record {
             marks = marks_at c (Tells w') (past_of w) e own more.2 (replies_then w w' e (grown (past_of w) own) (table_at c (Tells w') (past_of w) e own more.2) a.replies) marks a.marks_are;
             room = sym full ∙ a.full ∙ sym (room_at c (Tells w') (past_of w) e own more.2 (batch_weight (op ∷ [])) marks a.marks_are);
@@ -130,7 +130,7 @@ tried c w w' op o marks r told a left full faulty still =
           record { marks = tt; no_batch = All-nil (λ (m : Mark). MayStay m.entry); behind_them = none_at c (Tells w') (past_of w) e own more.2 marks a.marks_are },
         );
       };
-      caused = λ echo reply. record { later = record { old_store = a.old_faults; new_store = a.new_faults }; rose = λ f. a.cause (faulty f); still = λ n. still n };
+      caused = λ echo keep reply. record { later = record { old_store = a.old_faults; new_store = a.new_faults }; rose = λ f. a.cause (faulty f); still = λ n. still n };
       added = record { more = own; grew = grew; own = own_callers c e own more.2; retired = a.retired };
     }
 

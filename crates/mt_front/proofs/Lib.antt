@@ -3,9 +3,12 @@ mod BodyKeyLaws
 mod CallLaws
 mod CameLaws
 pub mod CauseLaws
+mod ClosingLaws
 pub mod FitLaws
 mod OwnLaws
 mod RefusalLaws
 mod ReplyLaws
+mod RouteLaws
 mod SpellLaws
 mod TalkLaws
+mod TurnLaws

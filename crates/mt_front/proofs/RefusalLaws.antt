@@ -4,8 +4,8 @@ use Rattle.std.specs.Prelude.{codes, decimal}
 use Rattle.std.specs.Fmt.{digits}
 use Rattle.mt_chain.specs.declared.op.Cause.TheVariants as cause
 use Rattle.mt_front.specs.declared.refusals.BadRequest.{BadRequest}
-use Rattle.mt_front.specs.declared.refusals.BadRequest.TheVariants.{MissingIfMatch, BadETag, KeyTooLong, KeyCharacter, InvalidJson, MissingKey, Double, BadName, BadType, TooManyProperties, PropertyTooLarge, EntityTooLarge}
-use Rattle.mt_front.specs.Refusals.{error_object, error_reply, bad_code, bad_sentence, bad_reply, cause_reply, fault_reply, full_reply}
+use Rattle.mt_front.specs.declared.refusals.BadRequest.TheVariants.{InvalidHead, InvalidFraming, RequestBodyTooLarge, InvalidBody, CompressedBody, NotImplemented, MissingIfMatch, BadETag, KeyTooLong, KeyCharacter, InvalidJson, MissingKey, Double, BadName, BadType, TooManyProperties, PropertyTooLarge, EntityTooLarge}
+use Rattle.mt_front.specs.Refusals.{error_object, error_reply, bad_status, bad_code, bad_sentence, bad_reply, cause_reply, fault_reply, full_reply}
 
 -- the reply whose length is spelled so
 abbrev pub sized : List ℕ → List ℕ → List ℕ → List ℕ → List ℕ
@@ -15,6 +15,12 @@ error_is : (status size code sentence : List ℕ) → decimal (length (error_obj
 error_is status size code sentence e = ap (λ n. sized status n code sentence) (sym e)
 
 abbrev pub bad_size : BadRequest → List ℕ
+bad_size InvalidHead = codes "106"
+bad_size InvalidFraming = codes "108"
+bad_size RequestBodyTooLarge = codes "114"
+bad_size InvalidBody = codes "109"
+bad_size CompressedBody = codes "115"
+bad_size NotImplemented = codes "108"
 bad_size MissingIfMatch = codes "100"
 bad_size BadETag = codes "94"
 bad_size KeyTooLong = codes "93"
@@ -30,6 +36,12 @@ bad_size EntityTooLarge = codes "103"
 
 size_is : (r : BadRequest) → decimal (length (error_object (bad_code r) (bad_sentence r))) ≡ bad_size r
 unfolding digits
+size_is InvalidHead = refl
+size_is InvalidFraming = refl
+size_is RequestBodyTooLarge = refl
+size_is InvalidBody = refl
+size_is CompressedBody = refl
+size_is NotImplemented = refl
 size_is MissingIfMatch = refl
 size_is BadETag = refl
 size_is KeyTooLong = refl
@@ -43,8 +55,8 @@ size_is TooManyProperties = refl
 size_is PropertyTooLarge = refl
 size_is EntityTooLarge = refl
 
-pub bad_is : (r : BadRequest) → sized (codes "400 Bad Request") (bad_size r) (bad_code r) (bad_sentence r) ≡ bad_reply r
-bad_is r = error_is (codes "400 Bad Request") (bad_size r) (bad_code r) (bad_sentence r) (size_is r)
+pub bad_is : (r : BadRequest) → sized (bad_status r) (bad_size r) (bad_code r) (bad_sentence r) ≡ bad_reply r
+bad_is r = error_is (bad_status r) (bad_size r) (bad_code r) (bad_sentence r) (size_is r)
 
 pub not_found_is : sized (codes "404 Not Found") (codes "119") (codes "ResourceNotFound") (codes "The specified resource does not exist.") ≡ cause_reply cause.NotFound
 unfolding digits

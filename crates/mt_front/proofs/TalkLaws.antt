@@ -1,105 +1,33 @@
 -- How the turns of a session add up.
-use Rattle.std.proofs.Common.{◌≡◌, ℕ, ◌+◌, ◌≤◌, List, [], ◌∷◌, ◌++◌, length, Option, Some, None, Ok, Err, refl, sym, ap, ◌∙◌, arith, subst, append_assoc, append-nil, length-append, inl, inr}
-use Rattle.std.specs.Prelude.{Result, IfSome}
+use Rattle.std.proofs.Common.{◌≡◌, ℕ, ◌+◌, ◌-◌, ◌≤◌, true, false, List, [], ◌∷◌, ◌++◌, length, Option, Some, None, Ok, Err, refl, sym, ap, ◌∙◌, arith, subst, append_assoc, append-nil, length-append, inl, inr}
+use Rattle.std.specs.Prelude.{Result, Bool, IfSome, ◌⊎◌}
 use Rattle.std.proofs.lemmas.List.Elements.{All-nil, All-cons, All-append}
-use Rattle.mt_io.specs.Ends.{Input, Output, Rose, before_known, after_known}
-use Rattle.mt_io.proofs.Pieces.{after_after, after_nothing, before_before, before_nothing}
+use Rattle.httparse.specs.Grammar.{print_request}
+use Rattle.mt_io.specs.Ends.{Input, Output, before_known}
+use Rattle.mt_io.proofs.Pieces.{before_nothing, after_nothing}
+use Rattle.mt_http_in.specs.Reading.{ahead, Later, Spent, Failed}
+use Rattle.mt_http_in.specs.Requests.{continue_of, BrokeIn, BrokeOut}
+use Rattle.mt_http_in.proofs.FillLaws.{later_then, spent_then, failed_then, ended_then}
 use Rattle.mt_history.specs.declared.entry.Entry.{Entry}
 use Rattle.mt_world.specs.Worlds.{WorldState, Tells}
-use Rattle.mt_chain.specs.declared.op.Op.{Op}
-use Rattle.mt_plain.specs.declared.request.PlainRequest.{PlainRequest}
-use Rattle.mt_plain.specs.Requests.{print_request}
-use Rattle.mt_plain.specs.Left.{Later, Took, Broke}
-use Rattle.mt_front.specs.declared.asks.Asked.{Asked}
-use Rattle.mt_front.specs.declared.asks.Asked.TheVariants as asked
-use Rattle.mt_front.specs.declared.asks.Echo.{Echo}
-use Rattle.mt_front.specs.declared.connection.Outcome.{Outcome}
-use Rattle.mt_front.specs.declared.connection.Outcome.TheVariants as outcome
-use Rattle.mt_front.specs.declared.connection.End.TheVariants.{Input as AtEnd, BadInput}
+use Rattle.mt_front.specs.declared.connection.End.{End}
+use Rattle.mt_front.specs.declared.connection.End.TheVariants.{Input as AtEnd, Closed, BadInput}
 use Rattle.mt_front.specs.declared.connection.Served.{Served}
 use Rattle.mt_front.specs.declared.connection.ConnFault.{ConnFault}
 use Rattle.mt_front.specs.declared.connection.ConnFault.TheVariants.{ReadFault, WriteFault, NoMemory}
 use Rattle.mt_front.specs.declared.connection.Turn.TheVariants.{Answered, Ended}
-use Rattle.mt_front.specs.Refusals.{cause_reply, fault_reply, full_reply, unsupported_reply}
-use Rattle.mt_front.specs.Replies.{IsDoneReply}
-use Rattle.mt_world.specs.WholeCalls.{Mark}
-use Rattle.mt_front.specs.Asks.{RequestAsks}
-use Rattle.mt_front.specs.Items.{Item, Renders, IsRendered, entries_of}
+use Rattle.mt_front.specs.Refusals.{sent_as}
+use Rattle.mt_front.specs.Asks.{WholeAsks, request_by}
+use Rattle.mt_front.specs.Items.{Item, IsRendered, AllKeep, LastCloses}
 use Rattle.mt_front.specs.Answers.{FitsFrom, IsCaused, AreCaused, past_end}
 use Rattle.mt_front.specs.Spells.{SpellsAll}
-use Rattle.mt_front.specs.Session.{Sent, Cut, past_of, counts_of, Added, Talk, SessionAs, Serves}
-use Rattle.mt_front.specs.Turns.{LeavesNothing, CameOut, Tries, outcome_of, tried_item, left_by, WritesReply, AnswersAs, AnswersOne, AnswersPlainAs, AnswersRequest, OneMore, TurnAs, SessionTurn}
+use Rattle.mt_front.specs.Session.{Sent, Cut, past_of, counts_of, Added, Talk, Course, IsCourse, IsRefused, SessionAs, Serves}
+use Rattle.mt_front.specs.Turns.{LeavesNothing, CameOut, OneMore, IsRefusal, SessionTurn, served_of}
 use Rattle.mt_front.proofs.FitLaws.{fits_sooner, fits_join}
 use Rattle.mt_front.proofs.CameLaws.{same_self, same_then, told_self, told_then, tells_before, past_grown, added_self, fits_none}
 use Rattle.mt_front.proofs.CauseLaws.{caused_more}
 use Rattle.mt_front.proofs.SpellLaws.{spells_more}
-
--- ---- bytes sent one after the other
-
-pub sent_after : (o y x : Output) (a b : List ℕ) → Sent o a y → Sent y b x → Sent o (a ++ b) x
-sent_after o y x a b p q = q ∙ ap (λ h. after_known h b) p ∙ after_after o.held a b
-
-pub cut_after : (o y x : Output) (a b : List ℕ) → o.faults ≤ y.faults → Sent o a y → Cut y b x → Cut o (a ++ b) x
-cut_after o y x a b le p q =
-    let rose : Rose y.faults x.faults = q.cause in
-    record {
-      part = a ++ q.part;
-      rest = q.rest;
-      is = ap (λ v. a ++ v) q.is ∙ sym (append_assoc a q.part q.rest);
-      held = sent_after o y x a q.part p q.held;
-      cause = omega arith;
-    }
-
--- ---- an answer whose reply was tried
-
--- the bytes are the reply to an operation that came to this
-abbrev pub RepliesWrite : Op → Echo → Outcome → List ℕ → Type 0
-RepliesWrite op echo (outcome.Done tag) bytes = IsDoneReply echo op tag bytes
-RepliesWrite op echo (outcome.Refused refusal) bytes = bytes ≡ cause_reply refusal.cause
-RepliesWrite op echo outcome.Fault bytes = bytes ≡ fault_reply
-RepliesWrite op echo outcome.Full bytes = bytes ≡ full_reply
-
-module _ (c : ℕ) (w w' : WorldState) (o x : Output) where
-  pub answered : (asks : Asked) (item : Item) (r : Result (Unit {0}) ConnFault) → item.asks ≡ asks → CameOut c w item w' → IsCaused (counts_of w) item (counts_of w') → Added c w w' → IsRendered item → WritesReply o item.reply r x → AnswersOne c w o asks r w' x
-  answered asks item (Ok u) is came cause added rendered reply = record { faults_out = reply.faults; answers = record { item = item; is_asked = is; came = came; caused = cause; added = added; rendered = rendered; replied = reply.replied } }
-  answered asks item (Err ReadFault) is came cause added rendered reply = absurd reply.replied
-  answered asks item (Err WriteFault) is came cause added rendered reply = record { faults_out = reply.faults; answers = record { item = item; is_asked = is; came = came; caused = cause; added = added; rendered = rendered; replied = reply.replied } }
-  answered asks item (Err NoMemory) is came cause added rendered reply = absurd reply.replied
-
-  -- an operation that was tried, whose bytes are the reply to what it came to
-  rendered_by : (op : Op) (echo : Echo) (out : Outcome) (marks : List Mark) (bytes : List ℕ) → entries_of marks ≡ left_by op out → RepliesWrite op echo out bytes → Renders (asked.Write op echo) (outcome_of out) marks bytes
-  rendered_by op echo (outcome.Done tag) marks bytes left is = (left, is)
-  rendered_by op echo (outcome.Refused refusal) marks bytes left is = (left, is)
-  rendered_by op echo outcome.Fault marks bytes left is = (left, is)
-  rendered_by op echo outcome.Full marks bytes left is = (left, is)
-
-  pub tried_answered : (op : Op) (echo : Echo) (out : Outcome) (bytes : List ℕ) (r : Result (Unit {0}) ConnFault) → Tries c w op (Ok out) w' → RepliesWrite op echo out bytes → WritesReply o bytes r x → AnswersOne c w o (asked.Write op echo) r w' x
-  tried_answered op echo out bytes r tries is reply =
-      answered (asked.Write op echo) (tried_item op out echo tries.0 bytes) r refl (tries.1.came echo bytes) (tries.1.caused echo bytes) tries.1.added
-      (rendered_by op echo out tries.0 bytes tries.1.left is) reply
-
-  -- the answer to a request that asks for this
-  plain_as : (p : PlainRequest) (asks : Asked) (r : Result (Unit {0}) ConnFault) → RequestAsks p asks → AnswersAs c w o asks r w' x → AnswersPlainAs c w o p r w' x
-  plain_as p asks (Ok u) a n = record { asks = asks; is_asked = a; answering = n }
-  plain_as p asks (Err ReadFault) a n = absurd n
-  plain_as p asks (Err WriteFault) a n = record { asks = asks; is_asked = a; answering = n }
-  plain_as p asks (Err NoMemory) a n = n
-
-  pub plain_answered : (p : PlainRequest) (asks : Asked) (r : Result (Unit {0}) ConnFault) → RequestAsks p asks → AnswersOne c w o asks r w' x → AnswersRequest c w o p r w' x
-  plain_answered p asks r a n = record { faults_out = n.faults_out; answers = plain_as p asks r a n.answers }
-
--- a request was read, and then answered
-module _ (c : ℕ) (table : List ℕ) (known known' : Option (List ℕ)) (s t : Input) (o x : Output) (w w' : WorldState) (p : PlainRequest) (later : Later s t) (took : Took table known p known') where
-  pub turn_made : AnswersRequest c w o p (Ok tt) w' x → SessionTurn c table known s o w (Ok Answered) known' t x w'
-  turn_made a = record { faults = later.faults; faults_out = a.faults_out; turn = record { plain = p; took = took; answered = a.answers } }
-
-  failed_as : (f : ConnFault) → AnswersPlainAs c w o p (Err f) w' x → TurnAs c table known s o w (Err f) known' t x w'
-  failed_as ReadFault a = absurd a
-  failed_as WriteFault a = inl (record { plain = p; took = took; answered = a })
-  failed_as NoMemory a = a
-
-  pub turn_failed : (f : ConnFault) → AnswersRequest c w o p (Err f) w' x → SessionTurn c table known s o w (Err f) known' t x w'
-  turn_failed f a = record { faults = later.faults; faults_out = a.faults_out; turn = failed_as f a.answers }
+use Rattle.mt_front.proofs.TurnLaws.{sent_after, cut_after}
 
 -- ---- a talk begins, goes on, and stays
 
@@ -159,30 +87,39 @@ module _ (c : ℕ) (u w w' : WorldState) (items : List Item) (talk : Talk c u it
 
 -- ---- the turns of a session
 
--- so far: these items were answered, and their replies written
-pub record On (c : ℕ) (table : List ℕ) (s : Input) (o : Output) (u : WorldState) (count : ℕ) (known' : Option (List ℕ)) (t : Input) (x : Output) (w : WorldState) : Type 0 where
+-- so far: these items were answered, and their replies written; the connection goes on
+pub record On (c : ℕ) (table : List ℕ) (s : Input) (o : Output) (u : WorldState) (count : ℕ) (kept : List ℕ) (t : Input) (x : Output) (w : WorldState) : Type 0 where
   pub items : List Item
   pub read : List ℕ
   pub written : List ℕ
   pub spelled : SpellsAll table items read written
-  pub read_is : s.left ≡ before_known read known'
+  pub spent : Spent [] s read kept t
   pub talk : Talk c u items w
   pub sent : Sent o written x
+  pub keep : AllKeep items
   pub count_is : count ≡ length items
-  pub faults : s.faults ≤ t.faults
+  pub later : Later s t
   pub faults_out : o.faults ≤ x.faults
 
-pub on_start : (c : ℕ) (table kept : List ℕ) (s : Input) (o : Output) (u : WorldState) → kept ≡ [] → On c table s o u 0 (before_known kept s.left) s o u
+spent_start : (kept : List ℕ) (s : Input) → kept ≡ [] → Spent [] s [] kept s
+spent_start kept s e = record {
+  same = sym (before_nothing (ahead kept s) ∙ ap (λ b. ahead b s) e);
+  within = omega arith;
+  paid = omega arith;
+}
+
+pub on_start : (c : ℕ) (table kept : List ℕ) (s : Input) (o : Output) (u : WorldState) → kept ≡ [] → On c table s o u 0 kept s o u
 on_start c table kept s o u e = record {
   items = [];
   read = [];
   written = [];
   spelled = (refl, refl);
-  read_is = sym (before_nothing (before_known kept s.left) ∙ ap (λ b. before_known b s.left) e ∙ before_nothing s.left);
+  spent = spent_start kept s e;
   talk = talk_start c u;
   sent = sym (after_nothing o.held);
+  keep = All-nil (λ (i : Item). i.keep ≡ true);
   count_is = refl;
-  faults = omega arith;
+  later = record { number = refl; calls = omega arith; faults = omega arith };
   faults_out = omega arith;
 }
 
@@ -194,119 +131,240 @@ nothing_left : (kept : List ℕ) (left : Option (List ℕ)) → IfSome (before_k
 nothing_left kept None e = tt
 nothing_left kept (Some all) e = last_empty kept all e
 
-module _ (c : ℕ) (table : List ℕ) (s : Input) (o : Output) (u : WorldState) (count : ℕ) (known' : Option (List ℕ)) (t : Input) (x : Output) (w : WorldState) (known'' : Option (List ℕ)) (t' : Input) (x' : Output) (w' : WorldState)
-    (on : On c table s o u count known' t x w) where
-  spelled_more : (r : Result (Unit {0}) ConnFault) (m : OneMore c table known' x w r known'' x' w')
-      → SpellsAll table (on.items ++ m.answered.answering.item ∷ []) (on.read ++ print_request m.took.request) (on.written ++ m.answered.answering.item.reply)
-  spelled_more r m = spells_more table on.items m.answered.answering.item on.read on.written (print_request m.took.request) m.answered.answering.item.reply on.spelled (record {
-    request = m.took.request;
-    plain = m.plain;
-    is_plain = m.took.is_plain;
-    is_asked = subst (RequestAsks m.plain) (sym m.answered.answering.is_asked) m.answered.is_asked;
-    read_is = refl;
-    written_is = refl;
+-- without memory for a reader nothing began
+pub never_began : (c : ℕ) (table : List ℕ) (s : Input) (o : Output) (u : WorldState) → Serves c table u s o (Err NoMemory) u s o
+never_began c table s o u = record {
+  course = record { items = []; read = []; written = []; left = s.left };
+  is_course = record { spelled = (refl, refl); read_is = sym (before_nothing s.left) };
+  talk = talk_start c u;
+  ends = record { said = []; spoken = inl refl; keep = All-nil (λ (i : Item). i.keep ≡ true); sent = sym (after_nothing o.held) };
+  faults = omega arith;
+  faults_out = omega arith;
+}
+
+module _ (c : ℕ) (table : List ℕ) (s : Input) (o : Output) (u : WorldState) (count : ℕ) (kept : List ℕ) (t : Input) (x : Output) (w : WorldState) (kept' : List ℕ) (t' : Input) (x' : Output) (w' : WorldState)
+    (on : On c table s o u count kept t x w) where
+  -- ---- one request more
+
+  abbrev pub item_of : (keep : Bool) (r : Result (Unit {0}) ConnFault) → OneMore c table kept t x w keep r kept' t' x' w' → Item
+  item_of keep r m = m.answering.item
+
+  abbrev pub bytes_of : (keep : Bool) (r : Result (Unit {0}) ConnFault) → OneMore c table kept t x w keep r kept' t' x' w' → List ℕ
+  bytes_of keep r m = continue_of m.head ++ sent_as keep m.answering.item.reply
+
+  abbrev pub course_more : (keep : Bool) (r : Result (Unit {0}) ConnFault) → OneMore c table kept t x w keep r kept' t' x' w' → Course
+  course_more keep r m = record { items = on.items ++ item_of keep r m ∷ []; read = on.read ++ m.got.bytes; written = on.written ++ bytes_of keep r m; left = ahead kept' t' }
+
+  spelled_more : (keep : Bool) (r : Result (Unit {0}) ConnFault) (m : OneMore c table kept t x w keep r kept' t' x' w')
+      → SpellsAll table (on.items ++ item_of keep r m ∷ []) (on.read ++ m.got.bytes) (on.written ++ bytes_of keep r m)
+  spelled_more keep r m = spells_more table on.items (item_of keep r m) on.read on.written m.got.bytes (bytes_of keep r m) on.spelled (record {
+    head = m.head;
+    body = m.body;
+    whole = m.got.whole;
+    is_asked = subst (WholeAsks table (request_by m.head m.body)) (sym m.answering.is_asked) m.is_asked;
+    keep_is = m.answering.keep_is ∙ m.keep_is;
+    written_is = ap (λ k. continue_of m.head ++ sent_as k m.answering.item.reply) (sym m.answering.keep_is);
   })
 
-  read_more : (r : Result (Unit {0}) ConnFault) (m : OneMore c table known' x w r known'' x' w') → s.left ≡ before_known (on.read ++ print_request m.took.request) known''
-  read_more r m = on.read_is ∙ ap (before_known on.read) m.took.read ∙ before_before on.read (print_request m.took.request) known''
+  spent_more : (keep : Bool) (r : Result (Unit {0}) ConnFault) (m : OneMore c table kept t x w keep r kept' t' x' w') → Spent [] s (on.read ++ m.got.bytes) kept' t'
+  spent_more keep r m = spent_then [] s on.read kept t m.got.bytes kept' t' on.spent m.got.spent
 
-  talk_made : (r : Result (Unit {0}) ConnFault) (m : OneMore c table known' x w r known'' x' w') → Talk c u (on.items ++ m.answered.answering.item ∷ []) w'
-  talk_made r m = let a = m.answered.answering in talk_more c u w w' on.items on.talk a.item a.came a.caused a.added a.rendered
+  known_of : (read : List ℕ) (b : List ℕ) (v : Input) → Spent [] s read b v → s.left ≡ before_known read (ahead b v)
+  known_of read b v spent = sym (before_nothing s.left) ∙ spent.same
+
+  is_course_more : (keep : Bool) (r : Result (Unit {0}) ConnFault) (m : OneMore c table kept t x w keep r kept' t' x' w') → IsCourse table s (course_more keep r m)
+  is_course_more keep r m = record { spelled = spelled_more keep r m; read_is = known_of (on.read ++ m.got.bytes) kept' t' (spent_more keep r m) }
+
+  talk_made : (keep : Bool) (r : Result (Unit {0}) ConnFault) (m : OneMore c table kept t x w keep r kept' t' x' w') → Talk c u (on.items ++ item_of keep r m ∷ []) w'
+  talk_made keep r m = let a = m.answering in talk_more c u w w' on.items on.talk a.item a.came a.caused a.added a.rendered
+
+  sent_more : (keep : Bool) (m : OneMore c table kept t x w keep (Ok tt) kept' t' x' w') → Sent o (on.written ++ bytes_of keep (Ok tt) m) x'
+  sent_more keep m = sent_after o x x' on.written (bytes_of keep (Ok tt) m) on.sent (sent_after x m.between x' (continue_of m.head) (sent_as keep m.answering.item.reply) m.got.said m.answering.replied)
+
+  cut_more : (keep : Bool) (m : OneMore c table kept t x w keep (Err WriteFault) kept' t' x' w') → Cut o (on.written ++ bytes_of keep (Err WriteFault) m) x'
+  cut_more keep m =
+      cut_after o x x' on.written (bytes_of keep (Err WriteFault) m) on.faults_out on.sent (cut_after x m.between x' (continue_of m.head) (sent_as keep m.answering.item.reply) m.later m.got.said m.answering.replied)
+
+  keeps_more : (i : Item) → i.keep ≡ true → AllKeep (on.items ++ i ∷ [])
+  keeps_more i e = All-append (λ (j : Item). j.keep ≡ true) on.items (i ∷ []) on.keep (All-cons (λ (j : Item). j.keep ≡ true) i [] e (All-nil (λ (j : Item). j.keep ≡ true)))
+
+  closes_last : (i : Item) → i.keep ≡ false → LastCloses (on.items ++ i ∷ [])
+  closes_last i e = record { before = on.items; last = i; are = refl; keep = on.keep; closes = e }
+
+  kept_or_last : (keep : Bool) (i : Item) → i.keep ≡ keep → AllKeep (on.items ++ i ∷ []) ⊎ LastCloses (on.items ++ i ∷ [])
+  kept_or_last true i e = inl (keeps_more i e)
+  kept_or_last false i e = inr (closes_last i e)
 
   long_more : (i : Item) → length (on.items ++ i ∷ []) ≡ length on.items + 1
   long_more i = length-append on.items (i ∷ [])
 
-  pub go_on : SessionTurn c table known' t x w (Ok Answered) known'' t' x' w' → On c table s o u (count + 1) known'' t' x' w'
+  count_more : (i : Item) → count + 1 ≡ length (on.items ++ i ∷ [])
+  count_more i = let n : count ≡ length on.items = on.count_is in let l : length (on.items ++ i ∷ []) ≡ length on.items + 1 = long_more i in omega (arith, n, l)
+
+  later_more : Later t t' → Later s t'
+  later_more l = later_then s t t' on.later l
+
+  out_more : x.faults ≤ x'.faults → o.faults ≤ x'.faults
+  out_more f = omega (arith, on.faults_out, f)
+
+  reads_of : (read b : List ℕ) (v : Input) → Spent [] s read b v → v.calls ≤ s.calls + length read
+  reads_of read b v spent = let p : v.calls ≤ s.calls + (length read - 0) = spent.paid in omega (arith, p)
+
+  pub go_on : SessionTurn c table kept t x w (Ok Answered) kept' t' x' w' → On c table s o u (count + 1) kept' t' x' w'
   go_on y =
-      let m : OneMore c table known' x w (Ok tt) known'' x' w' = y.turn in
-      let a = m.answered.answering in
-      let n : count ≡ length on.items = on.count_is in
-      let l : length (on.items ++ a.item ∷ []) ≡ length on.items + 1 = long_more a.item in
+      let m : OneMore c table kept t x w true (Ok tt) kept' t' x' w' = y.turn in
+      let i : Item = m.answering.item in
       record {
-        items = on.items ++ a.item ∷ [];
-        read = on.read ++ print_request m.took.request;
-        written = on.written ++ a.item.reply;
-        spelled = spelled_more (Ok tt) m;
-        read_is = read_more (Ok tt) m;
-        talk = talk_made (Ok tt) m;
-        sent = sent_after o x x' on.written a.item.reply on.sent a.replied;
-        count_is = omega (arith, n, l);
-        faults = omega (arith, on.faults, y.faults);
-        faults_out = omega (arith, on.faults_out, y.faults_out);
+        items = on.items ++ i ∷ [];
+        read = on.read ++ m.got.bytes;
+        written = on.written ++ bytes_of true (Ok tt) m;
+        spelled = spelled_more true (Ok tt) m;
+        spent = spent_more true (Ok tt) m;
+        talk = talk_made true (Ok tt) m;
+        sent = sent_more true m;
+        keep = keeps_more i m.answering.keep_is;
+        count_is = count_more i;
+        later = later_more y.later;
+        faults_out = out_more y.faults_out;
       }
 
+  -- ---- ends
+
+  -- the course so far
+  abbrev pub course : Course
+  course = record { items = on.items; read = on.read; written = on.written; left = ahead kept t }
+
+  is_course : IsCourse table s course
+  is_course = record { spelled = on.spelled; read_is = known_of on.read kept t on.spent }
+
   -- the items so far, and how that ended
-  serves : (r : Result Served ConnFault) → w' ≡ w → SessionAs table s o on.written (length on.items) known' r t' x' → t.faults ≤ t'.faults → x.faults ≤ x'.faults → Serves c table u s o r w' t' x'
+  serves : (r : Result Served ConnFault) → w' ≡ w → SessionAs s o course r t' x' → Later t t' → x.faults ≤ x'.faults → Serves c table u s o r w' t' x'
   serves r same ends more more_out = record {
-    items = on.items;
-    read = on.read;
-    written = on.written;
-    left = known';
-    spelled = on.spelled;
-    read_is = on.read_is;
+    course = course;
+    is_course = is_course;
     talk = subst (λ z. Talk c u on.items z) (sym same) on.talk;
     ends = ends;
-    faults = omega (arith, on.faults, more);
-    faults_out = omega (arith, on.faults_out, more_out);
+    faults = let l : Later s t' = later_more more in l.faults;
+    faults_out = out_more more_out;
   }
 
-  pub ended_at_end : (kept : List ℕ) (served : Served) → known'' ≡ before_known kept t'.left → served.«end» ≡ AtEnd → served.requests ≡ count → SessionTurn c table known' t x w (Ok (Ended AtEnd)) known'' t' x' w' → Serves c table u s o (Ok served) w' t' x'
-  ended_at_end kept served is end n y =
-      serves (Ok served) y.turn.3
-      (subst (λ end. SessionAs table s o on.written (length on.items) known' (Ok (record { requests = served.requests; «end» = end })) t' x') (sym end)
-      (y.turn.1, nothing_left kept t'.left (subst (λ known. IfSome known (λ all. all ≡ [])) (y.turn.0 ∙ is) y.turn.1), subst (λ z. Sent o on.written z) (sym y.turn.2) on.sent, n ∙ on.count_is))
-      y.faults y.faults_out
+  ended_at_end : SessionTurn c table kept t x w (Ok (Ended AtEnd)) kept' t' x' w' → Serves c table u s o (Ok (served_of count AtEnd)) w' t' x'
+  ended_at_end y =
+      let calls : t'.calls ≤ t.calls + 1 = y.turn.2 in
+      let before : t.calls ≤ s.calls + length on.read = reads_of on.read kept t on.spent in
+      serves (Ok (served_of count AtEnd)) y.turn.4 (
+        record {
+          nothing = y.turn.1;
+          nothing_more = nothing_left kept' t'.left (subst (λ known. IfSome known (λ all. all ≡ [])) y.turn.0 y.turn.1);
+          keep = on.keep;
+          sent = subst (λ z. Sent o on.written z) (sym y.turn.3) on.sent;
+          reads = omega (arith, calls, before);
+        },
+        on.count_is,
+      )
+      y.later y.faults_out
 
-  pub ended_badly : (served : Served) → served.«end» ≡ BadInput → served.requests ≡ count + 1 → SessionTurn c table known' t x w (Ok (Ended BadInput)) known'' t' x' w' → Serves c table u s o (Ok served) w' t' x'
-  ended_badly served end n y =
-      serves (Ok served) y.turn.2
-      (subst (λ end. SessionAs table s o on.written (length on.items) known' (Ok (record { requests = served.requests; «end» = end })) t' x') (sym end)
-      (y.turn.0, sent_after o x x' on.written unsupported_reply on.sent y.turn.1, n ∙ ap (λ k. k + 1) on.count_is))
-      y.faults y.faults_out
+  ended_closed : SessionTurn c table kept t x w (Ok (Ended Closed)) kept' t' x' w' → Serves c table u s o (Ok (served_of count Closed)) w' t' x'
+  ended_closed y =
+      let m : OneMore c table kept t x w false (Ok tt) kept' t' x' w' = y.turn in
+      let i : Item = m.answering.item in
+      record {
+        course = course_more false (Ok tt) m;
+        is_course = is_course_more false (Ok tt) m;
+        talk = talk_made false (Ok tt) m;
+        ends = (record { last = closes_last i m.answering.keep_is; sent = sent_more false m; reads = reads_of (on.read ++ m.got.bytes) kept' t' (spent_more false (Ok tt) m) }, count_more i);
+        faults = let l : Later s t' = later_more y.later in l.faults;
+        faults_out = out_more y.faults_out;
+      }
 
-  broke : Broke table known' t t' → Broke table known' s t'
-  broke b = let rose : Rose t.faults t'.faults = b.cause in record { read = b.read; read_is = b.read_is; none = b.none; cause = omega (arith, on.faults) }
+  refused_here : (owed : List ℕ) → IsRefusal kept t owed t' → IsRefused s course t' (on.written ++ owed)
+  refused_here owed b = record {
+    code = b.code;
+    said = b.said;
+    closes = b.closes;
+    refuses = b.refuses;
+    keep = on.keep;
+    owed_is = ap (λ z. on.written ++ z) b.owed_is;
+    reads = ended_then [] s on.read kept t t' on.spent b.ended;
+  }
 
-  pub failed : (f : ConnFault) → SessionTurn c table known' t x w (Err f) known'' t' x' w' → Serves c table u s o (Err f) w' t' x'
-  failed ReadFault y = serves (Err ReadFault) y.turn.2 (broke y.turn.0, subst (λ z. Sent o on.written z) (sym y.turn.1) on.sent) y.faults y.faults_out
+  ended_badly : SessionTurn c table kept t x w (Ok (Ended BadInput)) kept' t' x' w' → Serves c table u s o (Ok (served_of count BadInput)) w' t' x'
+  ended_badly y =
+      serves (Ok (served_of count BadInput)) y.turn.3
+      (on.written ++ y.turn.0, refused_here y.turn.0 y.turn.1, sent_after o x x' on.written y.turn.0 on.sent y.turn.2, ap (λ k. k + 1) on.count_is)
+      y.later y.faults_out
+
+  pub ended : (at : End) → SessionTurn c table kept t x w (Ok (Ended at)) kept' t' x' w' → Serves c table u s o (Ok (served_of count at)) w' t' x'
+  ended AtEnd y = ended_at_end y
+  ended Closed y = ended_closed y
+  ended BadInput y = ended_badly y
+
+  broke_in : BrokeIn kept t x t' x' → SessionAs s o course (Err ReadFault) t' x'
+  broke_in b =
+      let f : Failed [] s (on.read ++ b.read) t' = failed_then [] s on.read kept t b.read t' on.later on.spent b.failed in
+      let long : length (on.read ++ b.read) ≡ length on.read + length b.read = length-append on.read b.read in
+      let paid : t'.calls ≤ s.calls + (length (on.read ++ b.read) - 0) + 1 = f.paid in
+      record {
+        begun = b.read;
+        said = b.bytes;
+        begun_is = b.failed.same;
+        broken = b.broken;
+        keep = on.keep;
+        sent = sent_after o x x' on.written b.bytes on.sent b.said;
+        reads = omega (arith, long, paid);
+        cause = f.cause;
+      }
+
+  broke_out : BrokeOut kept t x kept' t' x' → SessionAs s o course (Err WriteFault) t' x'
+  broke_out b =
+      let more : Spent [] s (on.read ++ print_request b.head) kept' t' = spent_then [] s on.read kept t (print_request b.head) kept' t' on.spent b.spent in
+      let long : length (on.read ++ print_request b.head) ≡ length on.read + length (print_request b.head) = length-append on.read (print_request b.head) in
+      let calls : t'.calls ≤ s.calls + length (on.read ++ print_request b.head) = reads_of (on.read ++ print_request b.head) kept' t' more in
+      inr (inl (record {
+        head = b.head;
+        said = continue_of b.head;
+        next = record { is_head = b.is_head; rest = ahead kept' t'; at = b.spent.same; spoken = refl };
+        keep = on.keep;
+        cut = cut_after o x x' on.written (continue_of b.head) on.faults_out on.sent (record { part = b.part; rest = b.rest; is = b.piece; held = b.said; cause = b.cause });
+        reads = omega (arith, long, calls);
+      }))
+
+  cut_reply : (keep : Bool) (m : OneMore c table kept t x w keep (Err WriteFault) kept' t' x' w') → Later t t' → x.faults ≤ x'.faults → Serves c table u s o (Err WriteFault) w' t' x'
+  cut_reply keep m later out = record {
+    course = course_more keep (Err WriteFault) m;
+    is_course = is_course_more keep (Err WriteFault) m;
+    talk = talk_made keep (Err WriteFault) m;
+    ends = inl (record {
+      keep = kept_or_last keep m.answering.item m.answering.keep_is;
+      cut = cut_more keep m;
+      reads = reads_of (on.read ++ m.got.bytes) kept' t' (spent_more keep (Err WriteFault) m);
+    });
+    faults = let l : Later s t' = later_more later in l.faults;
+    faults_out = out_more out;
+  }
+
+  pub failed : (f : ConnFault) → SessionTurn c table kept t x w (Err f) kept' t' x' w' → Serves c table u s o (Err f) w' t' x'
+  failed ReadFault y = serves (Err ReadFault) y.turn.1 (broke_in y.turn.0) y.later y.faults_out
   failed WriteFault y = elim y.turn as (λ _. Serves c table u s o (Err WriteFault) w' t' x') [
-    | inl m ↦ record {
-      items = on.items ++ m.answered.answering.item ∷ [];
-      read = on.read ++ print_request m.took.request;
-      written = on.written ++ m.answered.answering.item.reply;
-      left = known'';
-      spelled = spelled_more (Err WriteFault) m;
-      read_is = read_more (Err WriteFault) m;
-      talk = talk_made (Err WriteFault) m;
-      ends = inl (cut_after o x x' on.written m.answered.answering.item.reply on.faults_out on.sent m.answered.answering.replied);
-      faults = omega (arith, on.faults, y.faults);
-      faults_out = omega (arith, on.faults_out, y.faults_out);
-    }
-    | inr b ↦ serves (Err WriteFault) b.2 (inr (b.0, cut_after o x x' on.written unsupported_reply on.faults_out on.sent b.1)) y.faults y.faults_out
+    | inl m ↦ cut_reply m.0 m.1 y.later y.faults_out
+    | inr (inl b) ↦ serves (Err WriteFault) b.1 (broke_out b.0) y.later y.faults_out
+    | inr (inr b) ↦ serves (Err WriteFault) b.3 (inr (inr (on.written ++ b.0, refused_here b.0 b.1, cut_after o x x' on.written b.0 on.faults_out on.sent b.2))) y.later y.faults_out
   ]
   failed NoMemory y = record {
-    items = on.items;
-    read = on.read;
-    written = on.written;
-    left = known';
-    spelled = on.spelled;
-    read_is = on.read_is;
+    course = course;
+    is_course = is_course;
     talk = talk_stays c u w w' on.items on.talk y.turn.0;
-    ends = subst (λ z. Sent o on.written z) (sym y.turn.1) on.sent;
-    faults = omega (arith, on.faults, y.faults);
-    faults_out = omega (arith, on.faults_out, y.faults_out);
+    ends = record { said = y.turn.1.said; spoken = y.turn.1.spoken; keep = on.keep; sent = sent_after o x x' on.written y.turn.1.said on.sent y.turn.1.sent };
+    faults = let l : Later s t' = later_more y.later in l.faults;
+    faults_out = out_more y.faults_out;
   }
 
-pub out_of_count : (c : ℕ) (table : List ℕ) (s : Input) (o : Output) (u : WorldState) (count : ℕ) (known' : Option (List ℕ)) (t : Input) (x : Output) (w : WorldState) → On c table s o u count known' t x w → Serves c table u s o (Err NoMemory) w t x
-out_of_count c table s o u count known' t x w on = record {
-  items = on.items;
-  read = on.read;
-  written = on.written;
-  left = known';
-  spelled = on.spelled;
-  read_is = on.read_is;
+pub out_of_count : (c : ℕ) (table : List ℕ) (s : Input) (o : Output) (u : WorldState) (count : ℕ) (kept : List ℕ) (t : Input) (x : Output) (w : WorldState) → On c table s o u count kept t x w → Serves c table u s o (Err NoMemory) w t x
+out_of_count c table s o u count kept t x w on = record {
+  course = record { items = on.items; read = on.read; written = on.written; left = ahead kept t };
+  is_course = record { spelled = on.spelled; read_is = sym (before_nothing s.left) ∙ on.spent.same };
   talk = on.talk;
-  ends = on.sent;
-  faults = on.faults;
+  ends = record { said = []; spoken = inl refl; keep = on.keep; sent = subst (λ z. Sent o z x) (sym (append-nil on.written)) on.sent };
+  faults = on.later.faults;
   faults_out = on.faults_out;
 }

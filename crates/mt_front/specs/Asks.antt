@@ -1,5 +1,5 @@
--- What a plain request asks for: an operation on one row, or a refusal.
-use Rattle.std.specs.Prelude.{◌≡◌, ℕ, ◌≤◌, Bool, true, false, List, Option, Some, None, Result, Ok, Err}
+-- What a request asks for: an operation on one row, or a refusal.
+use Rattle.std.specs.Prelude.{◌≡◌, ℕ, ◌≤◌, ◌⊎◌, Bool, true, false, List, Option, Some, None, Result, Ok, Err}
 use Rattle.mt_model.specs.declared.key.Key.{Key}
 use Rattle.mt_model.specs.declared.key.KeyFault.{KeyFault}
 use Rattle.mt_model.specs.declared.value.Prop.{Prop}
@@ -16,15 +16,20 @@ use Rattle.mt_chain.specs.declared.op.Op.TheVariants as op
 use Rattle.mt_chain.specs.Effect.{op_props}
 use Rattle.mt_chain.specs.Rows.{key_at}
 use Rattle.mt_rules.specs.Batches.{MayAsk}
-use Rattle.mt_plain.specs.declared.request.Action.{Action}
-use Rattle.mt_plain.specs.declared.request.Action.TheVariants.{Put, Merge, Delete}
-use Rattle.mt_plain.specs.declared.request.Route.{Route}
-use Rattle.mt_plain.specs.declared.request.Route.TheVariants as route
-use Rattle.mt_plain.specs.declared.request.IfMatch.{IfMatch}
-use Rattle.mt_plain.specs.declared.request.IfMatch.TheVariants as match
-use Rattle.mt_plain.specs.declared.request.PlainRequest.{PlainRequest}
+use Rattle.httparse.specs.Grammar.{RequestHead}
+use Rattle.mt_http_in.specs.declared.fields.Field.{Field}
+use Rattle.mt_http_in.specs.declared.requests.Incoming.{Incoming}
+use Rattle.mt_http_in.specs.Fields.{is_packed}
+use Rattle.mt_http_in.specs.Heads.{fields_of}
+use Rattle.mt_front.specs.declared.routes.Action.{Action}
+use Rattle.mt_front.specs.declared.routes.Action.TheVariants.{Put, Merge, Delete}
+use Rattle.mt_front.specs.declared.routes.Route.{Route}
+use Rattle.mt_front.specs.declared.routes.Route.TheVariants as route
+use Rattle.mt_front.specs.declared.routes.IfMatch.{IfMatch}
+use Rattle.mt_front.specs.declared.routes.IfMatch.TheVariants as match
+use Rattle.mt_front.specs.Routes.{IsRoute, IsMatch, prefers_no_content}
 use Rattle.mt_front.specs.declared.refusals.BadRequest.{BadRequest}
-use Rattle.mt_front.specs.declared.refusals.BadRequest.TheVariants.{MissingIfMatch, BadETag}
+use Rattle.mt_front.specs.declared.refusals.BadRequest.TheVariants.{NotImplemented, CompressedBody, MissingIfMatch, BadETag}
 use Rattle.mt_front.specs.declared.asks.Asked.{Asked}
 use Rattle.mt_front.specs.declared.asks.Asked.TheVariants.{Write, Refused}
 use Rattle.mt_front.specs.declared.asks.Echo.{Echo}
@@ -109,14 +114,53 @@ abbrev pub MatchedBy : Option BadRequest → Type 0 → Asked → Type 0
 MatchedBy None then asked = then
 MatchedBy (Some r) then asked = asked ≡ Refused r
 
--- what a plain request asks for
+-- what a request of that route asks for
 abbrev pub AsksOn : Route → IfMatch → Bool → List ℕ → Asked → Type 0
 AsksOn route.Table m no_content bytes asked = AsksInsert no_content bytes asked
 AsksOn (route.Entity action pk rk) m no_content bytes asked =
     MatchedBy (match_refusal action m) (KeyedBy (key_fault pk rk) (AsksAction action (condition_of m) (key_at pk rk) bytes asked) asked) asked
 
-abbrev pub RequestAsks : PlainRequest → Asked → Type 0
-RequestAsks p asked = AsksOn p.route p.if_match p.no_content p.body asked
+-- ---- whole requests
+
+-- a whole request, as far as it is read
+pub record Request : Type 0 where
+  pub method : List ℕ
+  pub target : List ℕ
+  pub fields : List Field
+  pub body : List ℕ
+
+-- the request of that head and body
+abbrev pub request_by : RequestHead → List ℕ → Request
+request_by h body = record { method = h.method; target = h.target; fields = fields_of h; body = body }
+
+-- the request that was read
+abbrev pub request_of : Incoming → Request
+request_of v = record { method = v.method; target = v.target; fields = v.fields; body = v.body }
+
+-- the request is of a route that is built, and asks for this
+pub record AsksRouted (table : List ℕ) (q : Request) (asked : Asked) : Type 0 where
+  pub at : Route
+  pub if_match : IfMatch
+  pub is_route : IsRoute table q.method q.target at
+  pub is_match : IsMatch q.fields if_match
+  pub asks : AsksOn at if_match (prefers_no_content q.fields) q.body asked
+
+-- the request is of no route that is built
+abbrev pub HasNoRoute : List ℕ → Request → Type 0
+HasNoRoute table q = (at : Route) → IsRoute table q.method q.target at → ⊥
+
+-- what a request on the table of that name asks for
+abbrev pub RequestAsks : List ℕ → Request → Asked → Type 0
+RequestAsks table q asked = AsksRouted table q asked ⊎ (HasNoRoute table q × (asked ≡ Refused NotImplemented))
+
+-- so, where its body is not compressed
+abbrev pub AsksUnpacked : Bool → List ℕ → Request → Asked → Type 0
+AsksUnpacked true table q asked = asked ≡ Refused CompressedBody
+AsksUnpacked false table q asked = RequestAsks table q asked
+
+-- what a whole request asks for
+abbrev pub WholeAsks : List ℕ → Request → Asked → Type 0
+WholeAsks table q asked = AsksUnpacked (is_packed q.fields) table q asked
 
 -- the operation keeps the rules of a batch, the reply can show of it what is asked, and its properties have at most 1 MiB
 abbrev pub CanTry : Asked → Type 0

@@ -1,5 +1,5 @@
 -- The items of a connection: what each asks, how it came out, and the reply that shows what its entries in the history reply.
-use Rattle.std.specs.Prelude.{◌≡◌, ℕ, Bool, true, false, List, [], ◌∷◌, length, filter, Option, Some, None}
+use Rattle.std.specs.Prelude.{◌≡◌, ℕ, Bool, true, false, All, List, [], ◌∷◌, ◌++◌, length, filter, Option, Some, None}
 use Rattle.std.specs.List.{flat_map}
 use Rattle.std.specs.Option.{option_to_list}
 use Rattle.mt_model.specs.declared.tag.Tag.{Tag}
@@ -24,9 +24,10 @@ pub data ItemOutcome : Type 0 where
   Fault : ItemOutcome
   Full : ItemOutcome
 
--- what is asked, how it came out, the bytes of the reply, and a mark for each turn: where it found the history's end, and what it left there
+-- what is asked, whether the connection goes on behind it, how it came out, the reply to one that goes on, and a mark for each turn: where it found the history's end, and what it left there
 pub record Item : Type 0 where
   pub asks : Asked
+  pub keep : Bool
   pub outcome : ItemOutcome
   pub reply : List ℕ
   pub marks : List Mark
@@ -86,3 +87,17 @@ Renders (asked.Refused r) Full marks bytes = ⊥
 -- the item's reply is that to what it asks
 abbrev pub IsRendered : Item → Type 0
 IsRendered i = Renders i.asks i.outcome i.marks i.reply
+
+-- ---- the end of a connection
+
+-- the connection goes on behind each
+abbrev pub AllKeep : List Item → Type 0
+AllKeep items = All (λ i. i.keep ≡ true) items
+
+-- it goes on behind each but the last
+pub record LastCloses (items : List Item) : Type 0 where
+  pub before : List Item
+  pub last : Item
+  pub are : items ≡ before ++ last ∷ []
+  pub keep : AllKeep before
+  pub closes : last.keep ≡ false

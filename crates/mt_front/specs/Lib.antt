@@ -1,3 +1,4 @@
+pub mod Routes
 pub mod Refusals
 pub mod Asks
 pub mod Replies

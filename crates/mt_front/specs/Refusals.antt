@@ -1,5 +1,6 @@
 -- Replies that say why nothing was done, as bytes: responses of HTTP/1.1 with an error object of OData's JSON format.
-use Rattle.std.specs.Prelude.{ℕ, List, ◌++◌, length, codes, decimal, Option, Some, None}
+use Rattle.std.specs.Prelude.{ℕ, Bool, true, false, nat_eq, List, [], ◌∷◌, ◌++◌, length, codes, decimal, Option, Some, None, if◌then◌else◌}
+use Rattle.std.specs.List.{starts_with}
 use Rattle.mt_model.specs.declared.key.KeyFault.{KeyFault}
 use Rattle.mt_model.specs.declared.key.KeyFault.TheVariants as key
 use Rattle.mt_model.specs.declared.props.PropsFault.{PropsFault}
@@ -8,8 +9,18 @@ use Rattle.mt_json.specs.declared.read.JsonFault.{JsonFault}
 use Rattle.mt_json.specs.declared.read.JsonFault.TheVariants as json
 use Rattle.mt_chain.specs.declared.op.Cause.{Cause}
 use Rattle.mt_chain.specs.declared.op.Cause.TheVariants as cause
+use Rattle.mt_http_in.specs.declared.Code.{Code}
+use Rattle.mt_http_in.specs.declared.Code.TheVariants as head
 use Rattle.mt_front.specs.declared.refusals.BadRequest.{BadRequest}
-use Rattle.mt_front.specs.declared.refusals.BadRequest.TheVariants.{MissingIfMatch, BadETag, KeyTooLong, KeyCharacter, InvalidJson, MissingKey, Double, BadName, BadType, TooManyProperties, PropertyTooLarge, EntityTooLarge}
+use Rattle.mt_front.specs.declared.refusals.BadRequest.TheVariants.{InvalidHead, InvalidFraming, RequestBodyTooLarge, InvalidBody, CompressedBody, NotImplemented, MissingIfMatch, BadETag, KeyTooLong, KeyCharacter, InvalidJson, MissingKey, Double, BadName, BadType, TooManyProperties, PropertyTooLarge, EntityTooLarge}
+
+-- the refusal of what is no whole request, or of a whole one whose body is compressed
+abbrev pub head_refusal : Code → BadRequest
+head_refusal head.InvalidHead = InvalidHead
+head_refusal head.InvalidFraming = InvalidFraming
+head_refusal head.RequestBodyTooLarge = RequestBodyTooLarge
+head_refusal head.InvalidBody = InvalidBody
+head_refusal head.CompressedBody = CompressedBody
 
 -- the refusal of a key's fault; want of memory is none
 abbrev pub key_refusal : KeyFault → Option BadRequest
@@ -51,6 +62,12 @@ error_reply status code sentence = json_response status (error_object code sente
 
 -- the code of a refusal before anything is tried
 abbrev pub bad_code : BadRequest → List ℕ
+bad_code InvalidHead = codes "InvalidHead"
+bad_code InvalidFraming = codes "InvalidFraming"
+bad_code RequestBodyTooLarge = codes "RequestBodyTooLarge"
+bad_code InvalidBody = codes "InvalidBody"
+bad_code CompressedBody = codes "CompressedBody"
+bad_code NotImplemented = codes "NotImplemented"
 bad_code MissingIfMatch = codes "MissingIfMatch"
 bad_code BadETag = codes "BadETag"
 bad_code KeyTooLong = codes "KeyTooLong"
@@ -66,6 +83,12 @@ bad_code EntityTooLarge = codes "EntityTooLarge"
 
 -- its sentence
 abbrev pub bad_sentence : BadRequest → List ℕ
+bad_sentence InvalidHead = codes "The request head is not valid."
+bad_sentence InvalidFraming = codes "The body length is not valid."
+bad_sentence RequestBodyTooLarge = codes "The request body is too large."
+bad_sentence InvalidBody = codes "The request body is not complete."
+bad_sentence CompressedBody = codes "Compressed bodies are not supported."
+bad_sentence NotImplemented = codes "The request is not supported."
 bad_sentence MissingIfMatch = codes "If-Match is required."
 bad_sentence BadETag = codes "The ETag is not valid."
 bad_sentence KeyTooLong = codes "A key is too long."
@@ -79,8 +102,29 @@ bad_sentence TooManyProperties = codes "The entity has too many properties."
 bad_sentence PropertyTooLarge = codes "A property value is too large."
 bad_sentence EntityTooLarge = codes "The entity is too large."
 
+-- its status line, behind the version
+abbrev pub bad_status : BadRequest → List ℕ
+bad_status InvalidHead = codes "400 Bad Request"
+bad_status InvalidFraming = codes "400 Bad Request"
+bad_status RequestBodyTooLarge = codes "413 Payload Too Large"
+bad_status InvalidBody = codes "400 Bad Request"
+bad_status CompressedBody = codes "501 Not Implemented"
+bad_status NotImplemented = codes "501 Not Implemented"
+bad_status MissingIfMatch = codes "400 Bad Request"
+bad_status BadETag = codes "400 Bad Request"
+bad_status KeyTooLong = codes "400 Bad Request"
+bad_status KeyCharacter = codes "400 Bad Request"
+bad_status InvalidJson = codes "400 Bad Request"
+bad_status MissingKey = codes "400 Bad Request"
+bad_status Double = codes "400 Bad Request"
+bad_status BadName = codes "400 Bad Request"
+bad_status BadType = codes "400 Bad Request"
+bad_status TooManyProperties = codes "400 Bad Request"
+bad_status PropertyTooLarge = codes "400 Bad Request"
+bad_status EntityTooLarge = codes "400 Bad Request"
+
 abbrev pub bad_reply : BadRequest → List ℕ
-bad_reply r = error_reply (codes "400 Bad Request") (bad_code r) (bad_sentence r)
+bad_reply r = error_reply (bad_status r) (bad_code r) (bad_sentence r)
 
 -- the reply to an operation that the table refuses
 abbrev pub cause_reply : Cause → List ℕ
@@ -98,6 +142,22 @@ fault_reply = error_reply (codes "500 Internal Server Error") (codes "StoreFault
 abbrev pub full_reply : List ℕ
 full_reply = error_reply (codes "507 Insufficient Storage") (codes "HistoryFull") (codes "The history is full.")
 
--- the reply to what is no plain request, after which the connection ends
-abbrev pub unsupported_reply : List ℕ
-unsupported_reply = codes "HTTP/1.1 501 Not Implemented\r\nContent-Type: application/json\r\nContent-Length: 108\r\nConnection: close\r\n\r\n" ++ error_object (codes "NotImplemented") (codes "The request is not supported.")
+-- ---- replies that end the connection
+
+-- an empty line follows the line that ends here
+abbrev pub ends_head : List ℕ → Bool
+ends_head bytes = starts_with nat_eq bytes (codes "\r\n\r\n")
+
+-- the field that ends the connection, behind another
+abbrev pub close_field : List ℕ
+close_field = codes "\r\nConnection: close"
+
+-- the reply with that field behind its last one, which an empty line follows
+abbrev pub closing : List ℕ → List ℕ
+closing [] = close_field
+closing (c ∷ cs) = if ends_head (c ∷ cs) then close_field ++ (c ∷ cs) else c ∷ closing cs
+
+-- the reply as it is written, where the connection goes on behind it or ends
+abbrev pub sent_as : Bool → List ℕ → List ℕ
+sent_as true reply = reply
+sent_as false reply = closing reply

@@ -4,14 +4,18 @@ use Rattle.mt_io.specs.Ends.{Input, Output, Rose, before_known, after_known}
 use Rattle.mt_history.specs.declared.entry.Entry.{Entry}
 use Rattle.mt_world.specs.Worlds.{WorldState, Tells, window_of}
 use Rattle.mt_world.specs.Turns.{IsSameWorld}
-use Rattle.mt_plain.specs.Left.{Broke, IsUnsupported}
+use Rattle.httparse.specs.Grammar.{RequestHead, print_request}
+use Rattle.mt_http_in.specs.declared.Code.{Code}
+use Rattle.mt_http_in.specs.Reading.{Closes, Ended}
+use Rattle.mt_http_in.specs.Heads.{IsHead}
+use Rattle.mt_http_in.specs.Requests.{Refuses, IsBroken, continue_of}
 use Rattle.mt_front.specs.declared.connection.End.{End}
-use Rattle.mt_front.specs.declared.connection.End.TheVariants.{Input as AtEnd, BadInput}
+use Rattle.mt_front.specs.declared.connection.End.TheVariants.{Input as AtEnd, Closed, BadInput}
 use Rattle.mt_front.specs.declared.connection.Served.{Served}
 use Rattle.mt_front.specs.declared.connection.ConnFault.{ConnFault}
 use Rattle.mt_front.specs.declared.connection.ConnFault.TheVariants.{ReadFault, WriteFault, NoMemory}
-use Rattle.mt_front.specs.Refusals.{unsupported_reply}
-use Rattle.mt_front.specs.Items.{Item}
+use Rattle.mt_front.specs.Refusals.{head_refusal, bad_reply, closing}
+use Rattle.mt_front.specs.Items.{Item, AllKeep, LastCloses}
 use Rattle.mt_front.specs.Answers.{Past, Counts, FitsConnection, AreCaused, past_end}
 use Rattle.mt_front.specs.Spells.{SpellsAll}
 
@@ -59,28 +63,112 @@ pub record Talk (c : ℕ) (w : WorldState) (items : List Item) (w' : WorldState)
   pub added : Added c w w'
   pub caused : AreCaused (counts_of w) items (counts_of w')
 
--- ---- the session
+-- ---- how a session ends
 
-abbrev pub EndsAs : List ℕ → Output → List ℕ → ℕ → Option (List ℕ) → ℕ → End → Input → Output → Type 0
-EndsAs table o written count left requests AtEnd t x = IfSome left (λ all. all ≡ []) × IfSome t.left (λ all. all ≡ []) × Sent o written x × (requests ≡ count)
-EndsAs table o written count left requests BadInput t x = IsUnsupported table left × Sent o (written ++ unsupported_reply) x × (requests ≡ count + 1)
-
--- how a session ends that owed these replies, so many of them, by its result: after a fault of reading or of memory they stand whole
-abbrev pub SessionAs : List ℕ → Input → Output → List ℕ → ℕ → Option (List ℕ) → Result Served ConnFault → Input → Output → Type 0
-SessionAs table s o written count left (Ok served) t x = EndsAs table o written count left served.requests served.end t x
-SessionAs table s o written count left (Err ReadFault) t x = Broke table left s t × Sent o written x
-SessionAs table s o written count left (Err WriteFault) t x = Cut o written x ⊎ (IsUnsupported table left × Cut o (written ++ unsupported_reply) x)
-SessionAs table s o written count left (Err NoMemory) t x = Sent o written x
-
--- a session of caller c with these items, whose requests are the bytes read up to what is left, and which ended as its result says
-pub record Serves (c : ℕ) (table : List ℕ) (w : WorldState) (s : Input) (o : Output) (r : Result Served ConnFault) (w' : WorldState) (t : Input) (x : Output) : Type 0 where
+-- the items that were answered, the bytes of their requests, the bytes that are owed for them, and what is left of the input behind their requests
+pub record Course : Type 0 where
   pub items : List Item
   pub read : List ℕ
   pub written : List ℕ
   pub left : Option (List ℕ)
-  pub spelled : SpellsAll table items read written
-  pub read_is : s.left ≡ before_known read left
-  pub talk : Talk c w items w'
-  pub ends : SessionAs table s o written (length items) left r t x
+
+-- the input was read to its end; a read that found it came behind those that brought the requests
+pub record AtInputEnd (s : Input) (o : Output) (c : Course) (t : Input) (x : Output) : Type 0 where
+  pub nothing : IfSome c.left (λ all. all ≡ [])
+  pub nothing_more : IfSome t.left (λ all. all ≡ [])
+  pub keep : AllKeep c.items
+  pub sent : Sent o c.written x
+  pub reads : t.calls ≤ s.calls + length c.read + 1
+
+-- the last request ended the connection, and no read began behind it
+pub record AtClose (s : Input) (o : Output) (c : Course) (t : Input) (x : Output) : Type 0 where
+  pub last : LastCloses c.items
+  pub sent : Sent o c.written x
+  pub reads : t.calls ≤ s.calls + length c.read
+
+-- what is left is refused, by one of the four codes that close; with that refusal these bytes are owed
+pub record IsRefused (s : Input) (c : Course) (t : Input) (owed : List ℕ) : Type 0 where
+  pub code : Code
+  pub said : List ℕ
+  pub closes : Closes code
+  pub refuses : IfSome c.left (λ all. Refuses all code said)
+  pub keep : AllKeep c.items
+  pub owed_is : owed ≡ c.written ++ (said ++ closing (bad_reply (head_refusal code)))
+  pub reads : Ended s t
+
+-- a read failed: these bytes had been read behind the requests, no whole one stands in them, and the 100 Continue of the one begun was written where its head stands whole and calls for it
+pub record AtReadFault (s : Input) (o : Output) (c : Course) (t : Input) (x : Output) : Type 0 where
+  pub begun : List ℕ
+  pub said : List ℕ
+  pub begun_is : c.left ≡ before_known begun t.left
+  pub broken : IsBroken begun said
+  pub keep : AllKeep c.items
+  pub sent : Sent o (c.written ++ said) x
+  pub reads : t.calls ≤ s.calls + length c.read + length begun + 1
+  pub cause : Rose s.faults t.faults
+
+-- a first part of what is owed for the requests was written, and no read began behind them
+pub record CutReply (s : Input) (o : Output) (c : Course) (t : Input) (x : Output) : Type 0 where
+  pub keep : AllKeep c.items ⊎ LastCloses c.items
+  pub cut : Cut o c.written x
+  pub reads : t.calls ≤ s.calls + length c.read
+
+-- a head stands whole at the front of what is left, and that is its 100 Continue
+pub record IsNext (left : Option (List ℕ)) (head : RequestHead) (said : List ℕ) : Type 0 where
+  pub is_head : IsHead head
+  pub rest : Option (List ℕ)
+  pub at : left ≡ before_known (print_request head) rest
+  pub spoken : said ≡ continue_of head
+
+-- a first part was written of that and of the next request's 100 Continue, and no read began behind its head
+pub record CutContinue (s : Input) (o : Output) (c : Course) (t : Input) (x : Output) : Type 0 where
+  pub head : RequestHead
+  pub said : List ℕ
+  pub next : IsNext c.left head said
+  pub keep : AllKeep c.items
+  pub cut : Cut o (c.written ++ said) x
+  pub reads : t.calls ≤ s.calls + length c.read + length (print_request head)
+
+-- a write failed
+abbrev pub AtWriteFault : Input → Output → Course → Input → Output → Type 0
+AtWriteFault s o c t x = CutReply s o c t x ⊎ CutContinue s o c t x ⊎ ((owed : List ℕ) × IsRefused s c t owed × Cut o owed x)
+
+-- nothing, or the 100 Continue of the request whose head stands whole at the front
+abbrev pub IsSaid : Option (List ℕ) → List ℕ → Type 0
+IsSaid left said = (said ≡ []) ⊎ ((head : RequestHead) × IsNext left head said)
+
+-- there was no memory for the next request, whose 100 Continue may have been written
+pub record AtNoMemory (o : Output) (c : Course) (x : Output) : Type 0 where
+  pub said : List ℕ
+  pub spoken : IsSaid c.left said
+  pub keep : AllKeep c.items
+  pub sent : Sent o (c.written ++ said) x
+
+-- a session that was served to its end, by how it ended; each reply counts
+abbrev pub EndsAs : Input → Output → Course → ℕ → End → Input → Output → Type 0
+EndsAs s o c requests AtEnd t x = AtInputEnd s o c t x × (requests ≡ length c.items)
+EndsAs s o c requests Closed t x = AtClose s o c t x × (requests ≡ length c.items)
+EndsAs s o c requests BadInput t x = (owed : List ℕ) × IsRefused s c t owed × Sent o owed x × (requests ≡ length c.items + 1)
+
+-- how a session ends that took this course, by its result
+abbrev pub SessionAs : Input → Output → Course → Result Served ConnFault → Input → Output → Type 0
+SessionAs s o c (Ok served) t x = EndsAs s o c served.requests served.end t x
+SessionAs s o c (Err ReadFault) t x = AtReadFault s o c t x
+SessionAs s o c (Err WriteFault) t x = AtWriteFault s o c t x
+SessionAs s o c (Err NoMemory) t x = AtNoMemory o c x
+
+-- the course is that of the bytes of the source
+pub record IsCourse (table : List ℕ) (s : Input) (c : Course) : Type 0 where
+  pub spelled : SpellsAll table c.items c.read c.written
+  pub read_is : s.left ≡ before_known c.read c.left
+
+-- ---- the session
+
+-- a session of caller c with these items, whose requests are the bytes read up to what is left, and which ended as its result says
+pub record Serves (c : ℕ) (table : List ℕ) (w : WorldState) (s : Input) (o : Output) (r : Result Served ConnFault) (w' : WorldState) (t : Input) (x : Output) : Type 0 where
+  pub course : Course
+  pub is_course : IsCourse table s course
+  pub talk : Talk c w course.items w'
+  pub ends : SessionAs s o course r t x
   pub faults : s.faults ≤ t.faults
   pub faults_out : o.faults ≤ x.faults

@@ -1,18 +1,21 @@
 -- How items stand in the bytes of a connection: the requests in what is read, and the replies in what is written.
 use Rattle.std.specs.Prelude.{◌≡◌, ℕ, List, [], ◌∷◌, ◌++◌}
-use Rattle.mt_plain.specs.declared.request.PlainRequest.{PlainRequest}
-use Rattle.mt_plain.specs.Requests.{Request, IsPlain, print_request}
-use Rattle.mt_front.specs.Asks.{RequestAsks}
+use Rattle.httparse.specs.Grammar.{RequestHead}
+use Rattle.mt_http_in.specs.Fields.{keeps_open}
+use Rattle.mt_http_in.specs.Heads.{fields_of}
+use Rattle.mt_http_in.specs.Requests.{Spells as SpellsRequest, continue_of}
+use Rattle.mt_front.specs.Refusals.{sent_as}
+use Rattle.mt_front.specs.Asks.{WholeAsks, request_by}
 use Rattle.mt_front.specs.Items.{Item}
 
--- the bytes read are a whole plain request of the table that asks for this, and those written are its reply
+-- the bytes read are a whole request that asks for this, and those written are its 100 Continue, where it calls for one, and its reply
 pub record Spells (table : List ℕ) (i : Item) (read written : List ℕ) : Type 0 where
-  pub request : Request
-  pub plain : PlainRequest
-  pub is_plain : IsPlain table request plain
-  pub is_asked : RequestAsks plain i.asks
-  pub read_is : read ≡ print_request request
-  pub written_is : written ≡ i.reply
+  pub head : RequestHead
+  pub body : List ℕ
+  pub whole : SpellsRequest head body read
+  pub is_asked : WholeAsks table (request_by head body) i.asks
+  pub keep_is : i.keep ≡ keeps_open head.minor (fields_of head)
+  pub written_is : written ≡ continue_of head ++ sent_as i.keep i.reply
 
 -- the items one after the other
 abbrev pub SpellsAll : List ℕ → List Item → List ℕ → List ℕ → Type 0

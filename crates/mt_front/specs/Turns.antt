@@ -1,29 +1,39 @@
 -- One turn of a session: one request read, answered over the world, and its reply written.
-use Rattle.std.specs.Prelude.{◌≡◌, ◌⊎◌, ℕ, ◌≤◌, List, [], ◌∷◌, Option, Result, Ok, Err, IfSome}
+use Rattle.std.specs.Prelude.{◌≡◌, ◌⊎◌, ℕ, ◌+◌, ◌≤◌, Bool, true, false, not, List, [], ◌∷◌, ◌++◌, Option, Result, Ok, Err, IfSome}
 use Rattle.mt_io.specs.Ends.{Input, Output}
 use Rattle.mt_model.specs.declared.text.NoMemory.{NoMemory as NoRoom}
 use Rattle.mt_chain.specs.declared.op.Op.{Op}
 use Rattle.mt_world.specs.Worlds.{WorldState, Tells}
 use Rattle.mt_world.specs.Turns.{IsSameWorld}
-use Rattle.mt_plain.specs.declared.request.PlainRequest.{PlainRequest}
-use Rattle.mt_plain.specs.Left.{Took, Broke, IsUnsupported}
+use Rattle.httparse.specs.Grammar.{RequestHead}
+use Rattle.mt_http_in.specs.declared.Code.{Code}
+use Rattle.mt_http_in.specs.declared.Code.TheVariants.{InvalidHead, InvalidFraming, RequestBodyTooLarge, InvalidBody, CompressedBody}
+use Rattle.mt_http_in.specs.declared.InFault.{InFault}
+use Rattle.mt_http_in.specs.declared.InFault.TheVariants as fault
+use Rattle.mt_http_in.specs.declared.requests.Incoming.{Incoming}
+use Rattle.mt_http_in.specs.Fields.{keeps_open}
+use Rattle.mt_http_in.specs.Reading.{ahead, Later, Closes, Ended as EndsReads}
+use Rattle.mt_http_in.specs.Heads.{fields_of}
+use Rattle.mt_http_in.specs.Requests.{Refuses, Got, BrokeIn, BrokeOut}
 use Rattle.mt_front.specs.declared.asks.Asked.{Asked}
 use Rattle.mt_front.specs.declared.asks.Asked.TheVariants as asked
 use Rattle.mt_front.specs.declared.asks.Echo.{Echo}
-use Rattle.mt_front.specs.declared.connection.End.TheVariants.{Input as AtEnd, BadInput}
+use Rattle.mt_front.specs.declared.connection.End.{End}
+use Rattle.mt_front.specs.declared.connection.Served.{Served}
+use Rattle.mt_front.specs.declared.connection.End.TheVariants.{Input as AtEnd, Closed, BadInput}
 use Rattle.mt_front.specs.declared.connection.ConnFault.{ConnFault}
 use Rattle.mt_front.specs.declared.connection.ConnFault.TheVariants.{ReadFault, WriteFault, NoMemory}
 use Rattle.mt_front.specs.declared.connection.Outcome.{Outcome}
 use Rattle.mt_front.specs.declared.connection.Outcome.TheVariants as outcome
 use Rattle.mt_front.specs.declared.connection.Turn.{Turn}
 use Rattle.mt_front.specs.declared.connection.Turn.TheVariants.{Answered, Ended}
-use Rattle.mt_front.specs.Refusals.{unsupported_reply}
-use Rattle.mt_front.specs.Asks.{RequestAsks}
+use Rattle.mt_front.specs.Refusals.{head_refusal, bad_reply, closing, sent_as}
+use Rattle.mt_front.specs.Asks.{RequestAsks, WholeAsks, request_by, request_of}
 use Rattle.mt_world.specs.Moves.{NewEntry, fault_entry}
 use Rattle.mt_world.specs.WholeCalls.{Mark}
 use Rattle.mt_front.specs.Items.{ItemOutcome, Done, Refused, Fault, Full, Item, IsRendered, entries_of, applied_entry, refused_entry}
 use Rattle.mt_front.specs.Answers.{FitsFrom, IsCaused, past_end}
-use Rattle.mt_front.specs.Session.{Sent, Cut, past_of, counts_of, ToldBefore, Added}
+use Rattle.mt_front.specs.Session.{Sent, Cut, past_of, counts_of, ToldBefore, Added, IsSaid}
 
 -- ---- over the world
 
@@ -56,14 +66,14 @@ left_by op outcome.Fault = fault_entry ∷ []
 left_by op outcome.Full = []
 
 -- the item of an operation that came to this
-abbrev pub tried_item : Op → Outcome → Echo → List Mark → List ℕ → Item
-tried_item op o echo marks reply = record { asks = asked.Write op echo; outcome = outcome_of o; reply = reply; marks = marks }
+abbrev pub tried_item : Op → Outcome → Echo → Bool → List Mark → List ℕ → Item
+tried_item op o echo keep marks reply = record { asks = asked.Write op echo; keep = keep; outcome = outcome_of o; reply = reply; marks = marks }
 
 -- an operation was tried with no other caller between, and these are the marks of its turns, whatever its reply shows
 pub record Tried (c : ℕ) (w : WorldState) (op : Op) (o : Outcome) (marks : List Mark) (w' : WorldState) : Type 0 where
   pub left : entries_of marks ≡ left_by op o
-  pub came : (echo : Echo) (reply : List ℕ) → CameOut c w (tried_item op o echo marks reply) w'
-  pub caused : (echo : Echo) (reply : List ℕ) → IsCaused (counts_of w) (tried_item op o echo marks reply) (counts_of w')
+  pub came : (echo : Echo) (keep : Bool) (reply : List ℕ) → CameOut c w (tried_item op o echo keep marks reply) w'
+  pub caused : (echo : Echo) (keep : Bool) (reply : List ℕ) → IsCaused (counts_of w) (tried_item op o echo keep marks reply) (counts_of w')
   pub added : Added c w w'
 
 -- for want of memory it has no entry
@@ -84,77 +94,128 @@ pub record WritesReply (o : Output) (bytes : List ℕ) (r : Result (Unit {0}) Co
   pub faults : o.faults ≤ x.faults
   pub replied : RepliedAs o bytes r x
 
--- what is asked was answered, with no other caller between, and with this result of writing the reply
-pub record Answering (c : ℕ) (w : WorldState) (o : Output) (asks : Asked) (r : Result (Unit {0}) ConnFault) (w' : WorldState) (x : Output) : Type 0 where
+-- what is asked was answered, with no other caller between, and with this result of writing the reply, behind which the connection goes on or ends
+pub record Answering (c : ℕ) (w : WorldState) (o : Output) (asks : Asked) (keep : Bool) (r : Result (Unit {0}) ConnFault) (w' : WorldState) (x : Output) : Type 0 where
   pub item : Item
   pub is_asked : item.asks ≡ asks
+  pub keep_is : item.keep ≡ keep
   pub came : CameOut c w item w'
   pub caused : IsCaused (counts_of w) item (counts_of w')
   pub added : Added c w w'
   pub rendered : IsRendered item
-  pub replied : RepliedAs o item.reply r x
+  pub replied : RepliedAs o (sent_as keep item.reply) r x
 
-abbrev pub AnswersAs : ℕ → WorldState → Output → Asked → Result (Unit {0}) ConnFault → WorldState → Output → Type 0
-AnswersAs c w o asks (Ok u) w' x = Answering c w o asks (Ok u) w' x
-AnswersAs c w o asks (Err ReadFault) w' x = ⊥
-AnswersAs c w o asks (Err WriteFault) w' x = Answering c w o asks (Err WriteFault) w' x
-AnswersAs c w o asks (Err NoMemory) w' x = LeavesNothing w w' × (x ≡ o)
+abbrev pub AnswersAs : ℕ → WorldState → Output → Asked → Bool → Result (Unit {0}) ConnFault → WorldState → Output → Type 0
+AnswersAs c w o asks keep (Ok u) w' x = Answering c w o asks keep (Ok u) w' x
+AnswersAs c w o asks keep (Err ReadFault) w' x = ⊥
+AnswersAs c w o asks keep (Err WriteFault) w' x = Answering c w o asks keep (Err WriteFault) w' x
+AnswersAs c w o asks keep (Err NoMemory) w' x = LeavesNothing w w' × (x ≡ o)
 
 -- the answer to what is asked
-pub record AnswersOne (c : ℕ) (w : WorldState) (o : Output) (asks : Asked) (r : Result (Unit {0}) ConnFault) (w' : WorldState) (x : Output) : Type 0 where
+pub record AnswersOne (c : ℕ) (w : WorldState) (o : Output) (asks : Asked) (keep : Bool) (r : Result (Unit {0}) ConnFault) (w' : WorldState) (x : Output) : Type 0 where
   pub faults_out : o.faults ≤ x.faults
-  pub answers : AnswersAs c w o asks r w' x
+  pub answers : AnswersAs c w o asks keep r w' x
 
 -- ---- requests
 
--- the request asks for something that was answered
-pub record AnswersPlain (c : ℕ) (w : WorldState) (o : Output) (p : PlainRequest) (r : Result (Unit {0}) ConnFault) (w' : WorldState) (x : Output) : Type 0 where
-  pub asks : Asked
-  pub is_asked : RequestAsks p asks
-  pub answering : Answering c w o asks r w' x
+-- behind an answer the connection goes on or ends
+abbrev pub turn_behind : Bool → Turn
+turn_behind true = Answered
+turn_behind false = Ended Closed
 
-abbrev pub AnswersPlainAs : ℕ → WorldState → Output → PlainRequest → Result (Unit {0}) ConnFault → WorldState → Output → Type 0
-AnswersPlainAs c w o p (Ok u) w' x = AnswersPlain c w o p (Ok u) w' x
-AnswersPlainAs c w o p (Err ReadFault) w' x = ⊥
-AnswersPlainAs c w o p (Err WriteFault) w' x = AnswersPlain c w o p (Err WriteFault) w' x
-AnswersPlainAs c w o p (Err NoMemory) w' x = LeavesNothing w w' × (x ≡ o)
+-- the request asks for something that was answered
+pub record AnswersWhole (c : ℕ) (table : List ℕ) (w : WorldState) (o : Output) (v : Incoming) (r : Result (Unit {0}) ConnFault) (w' : WorldState) (x : Output) : Type 0 where
+  pub asks : Asked
+  pub is_asked : RequestAsks table (request_of v) asks
+  pub answering : Answering c w o asks v.keep r w' x
+
+abbrev pub AnswersWholeAs : ℕ → List ℕ → WorldState → Output → Incoming → Result Turn ConnFault → WorldState → Output → Type 0
+AnswersWholeAs c table w o v (Ok turn) w' x = (turn ≡ turn_behind v.keep) × AnswersWhole c table w o v (Ok tt) w' x
+AnswersWholeAs c table w o v (Err ReadFault) w' x = ⊥
+AnswersWholeAs c table w o v (Err WriteFault) w' x = AnswersWhole c table w o v (Err WriteFault) w' x
+AnswersWholeAs c table w o v (Err NoMemory) w' x = LeavesNothing w w' × (x ≡ o)
 
 -- the answer to a request
-pub record AnswersRequest (c : ℕ) (w : WorldState) (o : Output) (p : PlainRequest) (r : Result (Unit {0}) ConnFault) (w' : WorldState) (x : Output) : Type 0 where
+pub record AnswersRequest (c : ℕ) (table : List ℕ) (w : WorldState) (o : Output) (v : Incoming) (r : Result Turn ConnFault) (w' : WorldState) (x : Output) : Type 0 where
   pub faults_out : o.faults ≤ x.faults
-  pub answers : AnswersPlainAs c w o p r w' x
+  pub answers : AnswersWholeAs c table w o v r w' x
+
+-- what comes behind a refusal by that code: only a whole request whose body is compressed may leave the connection open
+abbrev pub turn_refused : Code → Bool → Turn
+turn_refused InvalidHead close = Ended BadInput
+turn_refused InvalidFraming close = Ended BadInput
+turn_refused RequestBodyTooLarge close = Ended BadInput
+turn_refused InvalidBody close = Ended BadInput
+turn_refused CompressedBody close = turn_behind (not close)
+
+-- the reply to what is refused by that code
+abbrev pub refusal_bytes : Code → Bool → List ℕ
+refusal_bytes code close = sent_as (not close) (bad_reply (head_refusal code))
+
+abbrev pub RefusesAs : Output → Code → Bool → Result Turn ConnFault → Output → Type 0
+RefusesAs o code close (Ok turn) x = (turn ≡ turn_refused code close) × Sent o (refusal_bytes code close) x
+RefusesAs o code close (Err ReadFault) x = ⊥
+RefusesAs o code close (Err WriteFault) x = Cut o (refusal_bytes code close) x
+RefusesAs o code close (Err NoMemory) x = ⊥
+
+abbrev pub FaultedAs : Output → InFault → Result Turn ConnFault → Output → Type 0
+FaultedAs o fault.ReadFault r x = (r ≡ Err ReadFault) × (x ≡ o)
+FaultedAs o fault.WriteFault r x = (r ≡ Err WriteFault) × (x ≡ o)
+FaultedAs o fault.NoMemory r x = (r ≡ Err NoMemory) × (x ≡ o)
+FaultedAs o (fault.Refused status code close) r x = RefusesAs o code close r x
+
+-- what was answered where no request was read
+pub record AnswersFault (o : Output) (f : InFault) (r : Result Turn ConnFault) (x : Output) : Type 0 where
+  pub faults_out : o.faults ≤ x.faults
+  pub answers : FaultedAs o f r x
 
 -- ---- turns
 
--- a request that was read and answered
-pub record OneMore (c : ℕ) (table : List ℕ) (known : Option (List ℕ)) (o : Output) (w : WorldState) (r : Result (Unit {0}) ConnFault) (known' : Option (List ℕ)) (x : Output) (w' : WorldState) : Type 0 where
-  pub plain : PlainRequest
-  pub took : Took table known plain known'
-  pub answered : AnswersPlain c w o plain r w' x
+-- a request that was read, and answered behind its 100 Continue
+pub record OneMore (c : ℕ) (table kept : List ℕ) (s : Input) (o : Output) (w : WorldState) (keep : Bool) (r : Result (Unit {0}) ConnFault) (kept' : List ℕ) (t : Input) (x : Output) (w' : WorldState) : Type 0 where
+  pub head : RequestHead
+  pub body : List ℕ
+  pub between : Output
+  pub got : Got kept s o head body kept' t between
+  pub later : o.faults ≤ between.faults
+  pub asks : Asked
+  pub is_asked : WholeAsks table (request_by head body) asks
+  pub keep_is : keep ≡ keeps_open head.minor (fields_of head)
+  pub answering : Answering c w between asks keep r w' x
 
-abbrev pub RefusedAs : Output → Result Turn ConnFault → Output → Type 0
-RefusedAs o (Ok Answered) x = ⊥
-RefusedAs o (Ok (Ended AtEnd)) x = ⊥
-RefusedAs o (Ok (Ended BadInput)) x = Sent o unsupported_reply x
-RefusedAs o (Err ReadFault) x = ⊥
-RefusedAs o (Err WriteFault) x = Cut o unsupported_reply x
-RefusedAs o (Err NoMemory) x = ⊥
+-- a connection that ended so behind these answers; the reply that closes it counts, too
+abbrev pub served_of : ℕ → End → Served
+served_of answered AtEnd = record { requests = answered; «end» = AtEnd }
+served_of answered Closed = record { requests = answered + 1; «end» = Closed }
+served_of answered BadInput = record { requests = answered + 1; «end» = BadInput }
 
--- what is left of the input is refused
-pub record RefusesRest (o : Output) (r : Result Turn ConnFault) (x : Output) : Type 0 where
-  pub faults : o.faults ≤ x.faults
-  pub refused : RefusedAs o r x
+-- what is left is refused, and with the refusal these bytes are owed
+pub record IsRefusal (kept : List ℕ) (s : Input) (owed : List ℕ) (t : Input) : Type 0 where
+  pub code : Code
+  pub said : List ℕ
+  pub closes : Closes code
+  pub refuses : IfSome (ahead kept s) (λ all. Refuses all code said)
+  pub owed_is : owed ≡ said ++ closing (bad_reply (head_refusal code))
+  pub ended : EndsReads s t
+
+-- there was no memory, and nothing was written but a 100 Continue
+pub record StarvedAt (known : Option (List ℕ)) (o x : Output) : Type 0 where
+  pub said : List ℕ
+  pub spoken : IsSaid known said
+  pub sent : Sent o said x
 
 -- what one turn did, by its result
-abbrev pub TurnAs : ℕ → List ℕ → Option (List ℕ) → Input → Output → WorldState → Result Turn ConnFault → Option (List ℕ) → Input → Output → WorldState → Type 0
-TurnAs c table known s o w (Ok Answered) known' t x w' = OneMore c table known o w (Ok tt) known' x w'
-TurnAs c table known s o w (Ok (Ended AtEnd)) known' t x w' = (known ≡ known') × IfSome known (λ all. all ≡ []) × (x ≡ o) × (w' ≡ w)
-TurnAs c table known s o w (Ok (Ended BadInput)) known' t x w' = IsUnsupported table known × Sent o unsupported_reply x × (w' ≡ w)
-TurnAs c table known s o w (Err ReadFault) known' t x w' = Broke table known s t × (x ≡ o) × (w' ≡ w)
-TurnAs c table known s o w (Err WriteFault) known' t x w' = OneMore c table known o w (Err WriteFault) known' x w' ⊎ (IsUnsupported table known × Cut o unsupported_reply x × (w' ≡ w))
-TurnAs c table known s o w (Err NoMemory) known' t x w' = LeavesNothing w w' × (x ≡ o)
+abbrev pub TurnAs : ℕ → List ℕ → List ℕ → Input → Output → WorldState → Result Turn ConnFault → List ℕ → Input → Output → WorldState → Type 0
+TurnAs c table kept s o w (Ok Answered) kept' t x w' = OneMore c table kept s o w true (Ok tt) kept' t x w'
+TurnAs c table kept s o w (Ok (Ended AtEnd)) kept' t x w' = (ahead kept s ≡ ahead kept' t) × IfSome (ahead kept s) (λ all. all ≡ []) × (t.calls ≤ s.calls + 1) × (x ≡ o) × (w' ≡ w)
+TurnAs c table kept s o w (Ok (Ended Closed)) kept' t x w' = OneMore c table kept s o w false (Ok tt) kept' t x w'
+TurnAs c table kept s o w (Ok (Ended BadInput)) kept' t x w' = (owed : List ℕ) × IsRefusal kept s owed t × Sent o owed x × (w' ≡ w)
+TurnAs c table kept s o w (Err ReadFault) kept' t x w' = BrokeIn kept s o t x × (w' ≡ w)
+TurnAs c table kept s o w (Err WriteFault) kept' t x w' =
+    ((keep : Bool) × OneMore c table kept s o w keep (Err WriteFault) kept' t x w') ⊎ (BrokeOut kept s o kept' t x × (w' ≡ w)) ⊎ ((owed : List ℕ) × IsRefusal kept s owed t × Cut o owed x × (w' ≡ w))
+TurnAs c table kept s o w (Err NoMemory) kept' t x w' = LeavesNothing w w' × StarvedAt (ahead kept s) o x
 
-pub record SessionTurn (c : ℕ) (table : List ℕ) (known : Option (List ℕ)) (s : Input) (o : Output) (w : WorldState) (r : Result Turn ConnFault) (known' : Option (List ℕ)) (t : Input) (x : Output) (w' : WorldState) : Type 0 where
-  pub faults : s.faults ≤ t.faults
+pub record SessionTurn (c : ℕ) (table kept : List ℕ) (s : Input) (o : Output) (w : WorldState) (r : Result Turn ConnFault) (kept' : List ℕ) (t : Input) (x : Output) (w' : WorldState) : Type 0 where
+  pub later : Later s t
   pub faults_out : o.faults ≤ x.faults
-  pub turn : TurnAs c table known s o w r known' t x w'
+  pub turn : TurnAs c table kept s o w r kept' t x w'

@@ -1,22 +1,25 @@
-//! What a plain request asks for.
+//! What a request asks for.
 ghost use Rattle.std.specs.Prelude.{◌≡◌, ℕ, false, List, Result, Ok, None, IfOk};
 ghost use Rattle.std.specs.List.{list_any};
 ghost use Rattle.mt_model.specs.Key.{key_fault};
 ghost use Rattle.mt_model.specs.Name.{is_hidden};
 ghost use Rattle.mt_chain.specs.Rows.{key_at};
 ghost use Rattle.mt_chain.specs.declared.op.Op.TheVariants as op;
-ghost use Rattle.mt_plain.specs.declared.request.Route.TheVariants as route;
+ghost use Rattle.mt_front.specs.declared.routes.Route.TheVariants as route;
 ghost use Rattle.mt_front.specs.declared.asks.Asked.TheVariants as asked;
-ghost use Rattle.mt_front.specs.Asks.{BodyHasKeys, IsRefused, KeyedBy, InsertBy, AsksInsert, AsksAction, AsksWith, AsksOn, RequestAsks, CanTry, insert_echo, match_refusal, condition_of, put_op, merge_op};
+ghost use Rattle.mt_front.specs.declared.routes.IfMatch.{IfMatch};
+ghost use Rattle.mt_front.specs.Routes.{IsMatch, prefers_no_content};
+ghost use Rattle.mt_front.specs.Asks.{BodyHasKeys, IsRefused, KeyedBy, InsertBy, AsksInsert, AsksAction, AsksWith, AsksOn, RequestAsks, request_of, CanTry, insert_echo, match_refusal, condition_of, put_op, merge_op};
 
 #[cfg(test)]
 mod tests;
 
 use crate::refusals::{BadRequest, body_refusal, key_refusal};
+use crate::routes::{Action, IfMatch, Route, prefers_no_content, read_match, read_route};
 use mt_chain::{Cond, Op};
+use mt_http_in::{Field, Incoming};
 use mt_json::{Body, KeyUse, read_entity};
-use mt_model::{Key, NoMemory, Props};
-use mt_plain::{Action, IfMatch, PlainRequest, Route};
+use mt_model::{Key, NoMemory, Props, Text};
 use std::alloc::Global;
 
 /// What the reply to a written row shows of it.
@@ -32,7 +35,7 @@ pub enum Echo {
     Plain,
 }
 
-/// What a plain request asks for.
+/// What a request asks for.
 #[derive(Drop)]
 pub enum Asked {
     /// An operation on one row.
@@ -232,29 +235,43 @@ fn entity_by(
     }
 }
 
-/// What a plain request asks for: an operation on one row, or the first refusal. An insert's keys
-/// stand in its body, which is looked at before them; at an entity's methods the order is If-Match,
-/// then the key in the target, then the body, whose keys are ignored. A body is a JSON object
-/// (RFC 8259) as `mt_json::read_entity` reads it, and nothing is read after a refusal.
+/// What a request of that route asks for.
+fn asked_on(alloc: Global, at: Route, fields: &[Field], bytes: &[u8]) -> Result<Asked, NoMemory>
+    ensures asks { IfOk result (λ a. (m : IfMatch) × IsMatch fields.now m × AsksOn at m (prefers_no_content fields.now) bytes.now a) }
+    ensures may { IfOk result CanTry }
+{
+    let if_match = read_match(fields);
+    match at {
+        Route::Table => insert_by(alloc, prefers_no_content(fields), bytes),
+        Route::Entity { action, pk, rk } => {
+            entity_by(alloc, action, if_match, pk.as_str(), rk.as_str(), bytes)
+        }
+    }
+}
+
+/// What a request on the table asks for: an operation on one row, or the first refusal. A request of
+/// no route that is built is refused first. An insert's keys stand in its body, which is looked at
+/// before them, and its If-Match is unread; at an entity's methods the order is If-Match, then the
+/// key in the target, then the body, whose keys are ignored, and Prefer is unread. Of a field the
+/// first counts. A body is a JSON object (RFC 8259) as `mt_json::read_entity` reads it, and nothing
+/// is read after a refusal.
 ///
 /// Without If-Match a put or a merge takes the row whether it is there or not; with it the row has
 /// to be there and to meet it. The operation's key keeps the rules of keys, it has no hidden property,
 /// and its properties have at most 1,048,576 bytes. The one error is want of memory.
-pub fn asked_by(alloc: Global, request: PlainRequest) -> Result<Asked, NoMemory>
-    ensures asks { IfOk result (RequestAsks request) }
+pub fn asked_by(alloc: Global, table: &Text, request: Incoming) -> Result<Asked, NoMemory>
+    ensures asks { IfOk result (RequestAsks table.now (request_of request)) }
     ensures may { IfOk result CanTry }
 {
-    let PlainRequest {
-        route,
-        if_match,
-        no_content,
-        body,
-    } = request;
-    let bytes = body.as_slice();
-    match route {
-        Route::Table => insert_by(alloc, no_content, bytes),
-        Route::Entity { action, pk, rk } => {
-            entity_by(alloc, action, if_match, pk.as_str(), rk.as_str(), bytes)
-        }
+    let method = request.method.as_str().as_bytes();
+    let target = request.target.as_str().as_bytes();
+    match read_route(alloc, table, method, target)? {
+        Some(at) => asked_on(
+            alloc,
+            at,
+            request.fields.as_slice(),
+            request.body.as_slice(),
+        ),
+        None => Ok(Asked::Refused(BadRequest::NotImplemented)),
     }
 }

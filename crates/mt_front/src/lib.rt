@@ -3,12 +3,14 @@
 
 mod asks;
 mod batch;
+mod closing;
 mod connection;
 mod refusals;
 mod reply;
+mod routes;
 
 pub use asks::{Asked, Echo, asked_by};
 pub use batch::batch_of;
 pub use connection::{ConnFault, End, Served, session};
-pub use refusals::{BadRequest, bad_request, cause_reply, history_full, store_fault, unsupported};
+pub use refusals::{BadRequest, bad_request, cause_reply, head_refusal, history_full, store_fault};
 pub use reply::{Prepared, done, prepare};

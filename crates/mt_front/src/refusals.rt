@@ -3,20 +3,40 @@
 ghost use Rattle.std.specs.Prelude.{◌≡◌, false};
 ghost use Rattle.mt_json.specs.declared.read.JsonFault.TheVariants as json;
 ghost use Rattle.mt_json.specs.Body.{is_repeat};
-ghost use Rattle.mt_front.specs.Refusals.{key_refusal, props_refusal, body_refusal, bad_reply, cause_reply, fault_reply, full_reply, unsupported_reply};
+ghost use Rattle.mt_front.specs.Refusals.{key_refusal, props_refusal, body_refusal, head_refusal, bad_reply, cause_reply, fault_reply, full_reply};
 
 #[cfg(test)]
 mod tests;
 
 use mt_chain::Cause;
+use mt_http_in::Code;
 use mt_json::JsonFault;
 use mt_model::{KeyFault, PropsFault};
 
 /// Why a request is refused before anything is tried, in the order in which the reasons are looked
-/// for; but for an insert the body comes before its keys. Of `Double`, `BadName` and `BadType` the one
+/// for; but for an insert the body comes before its keys. The first four end the connection, and all but
+/// the last of the six before the others are `mt_http_in`'s. The status is 400 where none is given. Of `Double`, `BadName` and `BadType` the one
 /// at the first name in byte order is told.
 #[derive(Clone, Copy, Debug, PartialEq, Eq)]
 pub enum BadRequest {
+    /// No head of HTTP/1.1 within the limits (400).
+    InvalidHead,
+
+    /// The length of the body is unclear (400).
+    InvalidFraming,
+
+    /// The body has more than 4,194,304 bytes (413).
+    RequestBodyTooLarge,
+
+    /// The body is cut off or not framed as its head says (400).
+    InvalidBody,
+
+    /// The body has a Content-Encoding other than `identity` (501).
+    CompressedBody,
+
+    /// The method and the target are of no route that is built (501).
+    NotImplemented,
+
     /// A delete without If-Match.
     MissingIfMatch,
 
@@ -52,6 +72,19 @@ pub enum BadRequest {
 
     /// The properties have more than 1,048,576 bytes together.
     EntityTooLarge,
+}
+
+/// The refusal of what is no whole request, or of one whose body is compressed.
+pub fn head_refusal(code: Code) -> BadRequest
+    ensures { result ≡ head_refusal code }
+{
+    match code {
+        Code::InvalidHead => BadRequest::InvalidHead,
+        Code::InvalidFraming => BadRequest::InvalidFraming,
+        Code::RequestBodyTooLarge => BadRequest::RequestBodyTooLarge,
+        Code::InvalidBody => BadRequest::InvalidBody,
+        Code::CompressedBody => BadRequest::CompressedBody,
+    }
 }
 
 /// The refusal of a key's fault; `None` of want of memory.
@@ -94,11 +127,23 @@ pub fn body_refusal(fault: &JsonFault) -> Option<BadRequest>
     }
 }
 
-/// The reply to a request that is refused before anything is tried: 400.
+/// The reply to a request that is refused before anything is tried: 400, 413 or 501.
 pub fn bad_request(refusal: BadRequest) -> &'static str
     ensures { result.now ≡ bad_reply refusal }
 {
     match refusal {
+        BadRequest::InvalidHead =>
+            "HTTP/1.1 400 Bad Request\r\nContent-Type: application/json\r\nContent-Length: 106\r\n\r\n{\"odata.error\":{\"code\":\"InvalidHead\",\"message\":{\"lang\":\"en-US\",\"value\":\"The request head is not valid.\"}}}",
+        BadRequest::InvalidFraming =>
+            "HTTP/1.1 400 Bad Request\r\nContent-Type: application/json\r\nContent-Length: 108\r\n\r\n{\"odata.error\":{\"code\":\"InvalidFraming\",\"message\":{\"lang\":\"en-US\",\"value\":\"The body length is not valid.\"}}}",
+        BadRequest::RequestBodyTooLarge =>
+            "HTTP/1.1 413 Payload Too Large\r\nContent-Type: application/json\r\nContent-Length: 114\r\n\r\n{\"odata.error\":{\"code\":\"RequestBodyTooLarge\",\"message\":{\"lang\":\"en-US\",\"value\":\"The request body is too large.\"}}}",
+        BadRequest::InvalidBody =>
+            "HTTP/1.1 400 Bad Request\r\nContent-Type: application/json\r\nContent-Length: 109\r\n\r\n{\"odata.error\":{\"code\":\"InvalidBody\",\"message\":{\"lang\":\"en-US\",\"value\":\"The request body is not complete.\"}}}",
+        BadRequest::CompressedBody =>
+            "HTTP/1.1 501 Not Implemented\r\nContent-Type: application/json\r\nContent-Length: 115\r\n\r\n{\"odata.error\":{\"code\":\"CompressedBody\",\"message\":{\"lang\":\"en-US\",\"value\":\"Compressed bodies are not supported.\"}}}",
+        BadRequest::NotImplemented =>
+            "HTTP/1.1 501 Not Implemented\r\nContent-Type: application/json\r\nContent-Length: 108\r\n\r\n{\"odata.error\":{\"code\":\"NotImplemented\",\"message\":{\"lang\":\"en-US\",\"value\":\"The request is not supported.\"}}}",
         BadRequest::MissingIfMatch =>
             "HTTP/1.1 400 Bad Request\r\nContent-Type: application/json\r\nContent-Length: 100\r\n\r\n{\"odata.error\":{\"code\":\"MissingIfMatch\",\"message\":{\"lang\":\"en-US\",\"value\":\"If-Match is required.\"}}}",
         BadRequest::BadETag =>
@@ -154,11 +199,4 @@ pub fn history_full() -> &'static str
     ensures { result.now ≡ full_reply }
 {
     "HTTP/1.1 507 Insufficient Storage\r\nContent-Type: application/json\r\nContent-Length: 96\r\n\r\n{\"odata.error\":{\"code\":\"HistoryFull\",\"message\":{\"lang\":\"en-US\",\"value\":\"The history is full.\"}}}"
-}
-
-/// The reply to what is no plain request, after which the connection ends: 501.
-pub fn unsupported() -> &'static str
-    ensures { result.now ≡ unsupported_reply }
-{
-    "HTTP/1.1 501 Not Implemented\r\nContent-Type: application/json\r\nContent-Length: 108\r\nConnection: close\r\n\r\n{\"odata.error\":{\"code\":\"NotImplemented\",\"message\":{\"lang\":\"en-US\",\"value\":\"The request is not supported.\"}}}"
 }

@@ -1,7 +1,7 @@
 mod BodyLaws
 mod ByteLaws
 mod ChunkLaws
-mod FillLaws
+pub mod FillLaws
 mod HeadLaws
 mod PieceLaws
 mod RequestLaws

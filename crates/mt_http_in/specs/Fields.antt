@@ -1,5 +1,5 @@
 -- What the fields of a head say of its body and of the connection.
-use Rattle.std.specs.Prelude.{◌≡◌, ℕ, ◌==◌, nat_lt, nat_le, Bool, true, false, not, ◌&&◌, List, [], ◌∷◌, Option, Some, None, map, filter, length, codes, if◌then◌else◌}
+use Rattle.std.specs.Prelude.{◌≡◌, ℕ, ◌==◌, nat_lt, nat_le, Bool, true, false, not, ◌&&◌, List, [], ◌∷◌, Option, Some, None, option_map, map, filter, length, codes, if◌then◌else◌}
 use Rattle.std.specs.List.{find, list_all, list_any}
 use Rattle.std.specs.Cmp.Lexicographic.{pointwise}
 use Rattle.std.specs.Char.{eq_ignore_ascii_case, is_ascii_digit}
@@ -65,14 +65,18 @@ framing_by (c ∷ (d ∷ cs)) vs = Unclear
 abbrev pub framing_of : List Field → Framing
 framing_of fs = framing_by (values_of (codes "transfer-encoding") fs) (values_of (codes "content-length") fs)
 
--- the field is there and says 100-continue
-abbrev pub says_continue : Option Field → Bool
-says_continue None = false
-says_continue (Some f) = is_same f.value (codes "100-continue")
+-- the value of the first field of that name
+abbrev pub first_value : List ℕ → List Field → Option (List ℕ)
+first_value name fs = option_map (λ f. f.value) (find (is_named name) fs)
+
+-- the value is there, and it is that word without regard to case
+abbrev pub says : List ℕ → Option (List ℕ) → Bool
+says word None = false
+says word (Some value) = is_same value word
 
 -- the first Expect says 100-continue
 abbrev pub expects : List Field → Bool
-expects fs = says_continue (find (is_named (codes "expect")) fs)
+expects fs = says (codes "100-continue") (first_value (codes "expect") fs)
 
 -- chunks are announced, or a length above 0
 abbrev pub has_body : Framing → Bool

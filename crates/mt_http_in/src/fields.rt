@@ -1,7 +1,6 @@
 //! The fields of a head.
 ghost use Rattle.std.specs.Prelude.{◌≡◌, ℕ, List, option_map};
-ghost use Rattle.std.specs.List.{find};
-ghost use Rattle.mt_http_in.specs.Fields.{is_same, is_named};
+ghost use Rattle.mt_http_in.specs.Fields.{is_same, is_named, first_value, says};
 
 use mt_model::{Blob, Text};
 use std::marker::Model;
@@ -59,5 +58,31 @@ impl Fields {
         ensures { result.now ≡ self.now }
     {
         self.items.as_slice()
+    }
+}
+
+/// The value of the first field of that name, which is compared without regard to ASCII case.
+pub fn first_value<'a>(fields: &'a [Field], name: &[u8]) -> Option<&'a [u8]>
+    ensures { option_map (λ v. v.now) result ≡ first_value name.now fields.now }
+{
+    match fields {
+        [] => None,
+        [first, rest @ ..] => {
+            if first.is_named(name) {
+                Some(first.value.as_slice())
+            } else {
+                first_value(rest, name)
+            }
+        }
+    }
+}
+
+/// Whether the value is there, and is that word without regard to ASCII case.
+pub fn says(value: Option<&[u8]>, word: &[u8]) -> bool
+    ensures { result ≡ says word.now (option_map (λ v. v.now) value.entry) }
+{
+    match value {
+        Some(value) => is_word(value, word),
+        None => false,
     }
 }

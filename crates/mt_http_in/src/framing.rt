@@ -6,7 +6,7 @@ ghost use Rattle.std.specs.Str.Parse.{digits_value};
 ghost use Rattle.httparse.specs.Grammar.{is_ows, skip_ows, trim_ows};
 ghost use Rattle.mt_http_in.specs.Fields.{values_of, AreValues, coded, length_of, framing_of, expects, has_body, calls_for, is_comma, has_word, says_close, has_close, says_packed, is_packed};
 
-use crate::fields::{Field, is_word};
+use crate::fields::{Field, first_value, is_word, says};
 
 /// How a body is framed.
 #[derive(Clone, Copy, Drop)]
@@ -117,16 +117,7 @@ pub fn framed(fields: &[Field]) -> Framing
 fn is_expecting(fields: &[Field]) -> bool
     ensures { result ≡ expects fields.now }
 {
-    match fields {
-        [] => false,
-        [first, rest @ ..] => {
-            if first.is_named(b"expect") {
-                is_word(first.value.as_slice(), b"100-continue")
-            } else {
-                is_expecting(rest)
-            }
-        }
-    }
+    says(first_value(fields, b"expect"), b"100-continue")
 }
 
 fn is_with_body(framing: Framing) -> bool

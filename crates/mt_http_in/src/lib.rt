@@ -12,7 +12,7 @@ mod requests;
 mod tests;
 mod trailers;
 
-pub use fields::{Field, Fields};
+pub use fields::{Field, Fields, first_value, says};
 pub use reader::Reader;
 pub use requests::{Incoming, read_request};
 

@@ -19,11 +19,11 @@ use Rattle.mt_front.specs.declared.connection.ConnFault.{ConnFault}
 use Rattle.mt_front.specs.declared.connection.ConnFault.TheVariants as conn
 use Rattle.mt_front.specs.Items.{Item, faults_of}
 use Rattle.mt_front.specs.Answers.{FitsFrom, AreCaused, past_end}
-use Rattle.mt_front.specs.Session.{past_of, counts_of, SessionAs, EndsAs, Serves}
+use Rattle.mt_front.specs.Session.{Course, past_of, counts_of, SessionAs, EndsAs, Serves}
 use Rattle.mt_front.proofs.CauseLaws.{caused_sum}
 use Rattle.mt_front.proofs.FitLaws.{fits_sooner}
 use Rattle.mt_top.specs.declared.running.Ending.{Ending}
-use Rattle.mt_top.specs.declared.running.Ending.TheVariants.{Served, BadWords, ReadFault, WriteFault, StoreFault, Occupied, Unsupported, NoMemory}
+use Rattle.mt_top.specs.declared.running.Ending.TheVariants.{Served, BadWords, ReadFault, WriteFault, StoreFault, Occupied, BadInput, NoMemory}
 use Rattle.mt_top.specs.Run.{Service, orders, is_bad_words, Along, Tellings, Idle, NotFresh, AllTell, IsReplay, Wrote, FaultsRose, During, RunEnds, depot_tellings}
 use Rattle.mt_top.specs.Endings.{ending_at, ending_of, opening_ending, tellings_of, Over, OverDepot}
 
@@ -62,18 +62,20 @@ module _ (v : Service) (w : WorldState) (old_is : w.old_store.number ≡ v.old_n
 
 -- ---- a session over both stores
 
-wrote_at : (v : Service) (s : Input) (o : Output) (written : List ℕ) (count : ℕ) (left : Option (List ℕ)) (requests : ℕ) (e : End) (t : Input) (x : Output) → EndsAs v.table o written count left requests e t x → Wrote v s o (ending_at e) written left t x
-wrote_at v s o written count left requests end.Input t x e = (e.0, e.1, e.2)
-wrote_at v s o written count left requests end.BadInput t x e = (e.0, e.1)
+wrote_at : (s : Input) (o : Output) (c : Course) (requests : ℕ) (e : End) (t : Input) (x : Output) → EndsAs s o c requests e t x → Wrote s o (ending_at e) c t x
+wrote_at s o c requests end.Input t x e = inl e.0
+wrote_at s o c requests end.Closed t x e = inr e.0
+wrote_at s o c requests end.BadInput t x e = (e.0, e.1, e.2)
 
-wrote : (v : Service) (s : Input) (o : Output) (written : List ℕ) (count : ℕ) (left : Option (List ℕ)) (r : Result ServedTo ConnFault) (t : Input) (x : Output) → SessionAs v.table s o written count left r t x → Wrote v s o (ending_of r) written left t x
-wrote v s o written count left (Ok served) t x e = wrote_at v s o written count left served.requests served.«end» t x e
-wrote v s o written count left (Err conn.ReadFault) t x e = e
-wrote v s o written count left (Err conn.WriteFault) t x e = e
-wrote v s o written count left (Err conn.NoMemory) t x e = e
+wrote : (s : Input) (o : Output) (c : Course) (r : Result ServedTo ConnFault) (t : Input) (x : Output) → SessionAs s o c r t x → Wrote s o (ending_of r) c t x
+wrote s o c (Ok served) t x e = wrote_at s o c served.requests served.«end» t x e
+wrote s o c (Err conn.ReadFault) t x e = e
+wrote s o c (Err conn.WriteFault) t x e = e
+wrote s o c (Err conn.NoMemory) t x e = e
 
 at_end_during : (v : Service) (s : Input) (o : Output) (c : Tellings) (before now : ℕ) (e : End) (t : Input) (x : Output) → During v s o (ending_at e) c before now t x → RunEnds v s o (ending_at e) c before now t x
 at_end_during v s o c before now end.Input t x d = d
+at_end_during v s o c before now end.Closed t x d = d
 at_end_during v s o c before now end.BadInput t x d = d
 
 by_during : (v : Service) (s : Input) (o : Output) (c : Tellings) (before now : ℕ) (r : Result ServedTo ConnFault) (t : Input) (x : Output) → During v s o (ending_of r) c before now t x → RunEnds v s o (ending_of r) c before now t x
@@ -84,6 +86,7 @@ by_during v s o c before now (Err conn.NoMemory) t x d = inr d
 
 spoken_at : (e : End) → is_bad_words (ending_at e) ≡ false
 spoken_at end.Input = refl
+spoken_at end.Closed = refl
 spoken_at end.BadInput = refl
 
 spoken : (r : Result ServedTo ConnFault) → is_bad_words (ending_of r) ≡ false
@@ -107,18 +110,14 @@ module _ (s : Input) (o : Output) (k l : Store) (w : WorldState) (r : Result Ser
       let first : w'.history.first ≡ 0 = same.first ∙ opened.first in
       let started : past_end (past_of w) ≡ 0 = let n : length w.history.entries ≡ 0 = ap length opened.nothing in omega (arith, n, same.first, first) in
       record {
-        items = served.items;
-        read = served.read;
-        written = served.written;
-        left = served.left;
+        course = served.course;
         world = w';
         world_is = record { base = same.base ∙ opened.base; limit = same.limit ∙ opened.limit; first = first };
-        spelled = served.spelled;
-        read_is = served.read_is;
+        is_course = served.is_course;
         answered = record {
           rendered = served.talk.answered.rendered;
-          fits = fits_sooner 0 (Tells w') (AllTell (tellings_of k w'.old_store l w'.new_store)) (λ a. record { old = a.old_after; new = a.new_after }) (past_of w') 0 served.items []
-              (subst (λ n. FitsFrom 0 (Tells w') (past_of w') n served.items []) started served.talk.answered.fits);
+          fits = fits_sooner 0 (Tells w') (AllTell (tellings_of k w'.old_store l w'.new_store)) (λ a. record { old = a.old_after; new = a.new_after }) (past_of w') 0 served.course.items []
+              (subst (λ n. FitsFrom 0 (Tells w') (past_of w') n served.course.items []) started served.talk.answered.fits);
         };
         own = subst (λ (es : List Entry). All (λ (e : Entry). e.caller ≡ 0) es) (sym (served.talk.added.grew ∙ ap (λ (es : List Entry). es ++ served.talk.added.more) opened.nothing)) served.talk.added.own;
         fresh = (
@@ -126,8 +125,8 @@ module _ (s : Input) (o : Output) (k l : Store) (w : WorldState) (r : Result Ser
           fresh_along l.told w.new_store.told w'.new_store.told opened.new_stays.contents opened.new_fresh served.talk.told.new_told,
         );
         replayed = replayed_at orders w' (same.old_number ∙ opened.old_stays.number ∙ zero) (same.new_number ∙ opened.new_stays.number ∙ one) k.told l.told w'.old_store.told w'.new_store.told world.replayed;
-        caused = caused_both k l w w' served.items opened.old_stays.faults opened.new_stays.faults served.talk.caused;
-        wrote = wrote orders s o served.written (length served.items) served.left r t x served.ends;
+        caused = caused_both k l w w' served.course.items opened.old_stays.faults opened.new_stays.faults served.talk.caused;
+        wrote = wrote s o served.course r t x served.ends;
       }
 
   over_session : Opened k l orders.limit w → Serves 0 orders.table w s o r w' t x → Over s o k l (ending_of r) t x w'.old_store w'.new_store
@@ -237,14 +236,10 @@ module _ (s : Input) (o : Output) (c c' : Tellings) (t : Input) (x : Output) (le
 
   carried_during : (ending : Ending) → During orders s o ending c b n t x → During orders s o ending c' b' n' t x
   carried_during ending d = record {
-    items = d.items;
-    read = d.read;
-    written = d.written;
-    left = d.left;
+    course = d.course;
     world = d.world;
     world_is = d.world_is;
-    spelled = d.spelled;
-    read_is = d.read_is;
+    is_course = d.is_course;
     answered = record {
       rendered = d.answered.rendered;
       fits = fits_sooner 0 (AllTell c) (AllTell c') (λ a. record {
@@ -252,7 +247,7 @@ module _ (s : Input) (o : Output) (c c' : Tellings) (t : Input) (x : Output) (le
         old_after = some_less c.old_after c'.old_after less.old_after a.old_after;
         new_before = some_less c.new_before c'.new_before less.new_before a.new_before;
         new_after = some_less c.new_after c'.new_after less.new_after a.new_after;
-      }) (past_of d.world) 0 d.items [] d.answered.fits;
+      }) (past_of d.world) 0 d.course.items [] d.answered.fits;
     };
     own = d.own;
     fresh = (
@@ -261,7 +256,7 @@ module _ (s : Input) (o : Output) (c c' : Tellings) (t : Input) (x : Output) (le
     );
     replayed = all_less (IsReplay orders d.world) c.old_before c.new_before c.old_after c.new_after c'.old_before c'.new_before c'.old_after c'.new_after
         less.old_before less.new_before less.old_after less.new_after d.replayed;
-    caused = carried_caused d.items d.caused;
+    caused = carried_caused d.course.items d.caused;
     wrote = d.wrote;
   }
 
@@ -293,7 +288,7 @@ module _ (s : Input) (o : Output) (c c' : Tellings) (t : Input) (x : Output) (le
   carried WriteFault e = carried_during WriteFault e
   carried StoreFault e = (carried_idle e.0, carried_rose e.1)
   carried Occupied e = (carried_idle e.0, carried_full e.1)
-  carried Unsupported e = carried_during Unsupported e
+  carried BadInput e = carried_during BadInput e
   carried NoMemory e = carried_or e
 
 pub over_depot_law : (s : Input) (o : Output) (d d1 d2 d3 d4 : Shelf) (k l k' l' : Store) (ending : Ending) (t : Input) (x : Output)

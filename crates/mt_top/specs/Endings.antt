@@ -13,13 +13,14 @@ use Rattle.mt_front.specs.declared.connection.End.{End}
 use Rattle.mt_front.specs.declared.connection.ConnFault.{ConnFault}
 use Rattle.mt_front.specs.declared.connection.ConnFault.TheVariants as conn
 use Rattle.mt_top.specs.declared.running.Ending.{Ending}
-use Rattle.mt_top.specs.declared.running.Ending.TheVariants.{Served, ReadFault, WriteFault, StoreFault, Occupied, Unsupported, NoMemory}
+use Rattle.mt_top.specs.declared.running.Ending.TheVariants.{Served, ReadFault, WriteFault, StoreFault, Occupied, BadInput, NoMemory}
 use Rattle.mt_top.specs.Run.{is_bad_words, Tellings, RunEnds, HandedBack, depot_tellings, orders}
 
 -- how the end of a session ends the run
 abbrev pub ending_at : End → Ending
 ending_at end.Input = Served
-ending_at end.BadInput = Unsupported
+ending_at end.Closed = Served
+ending_at end.BadInput = BadInput
 
 -- how a session's result ends the run
 abbrev pub ending_of : Result ServedTo ConnFault → Ending

@@ -1,6 +1,6 @@
 -- A run of the program: the words, the stores of the depot, and a session over the world that they are opened as.
-use Rattle.std.specs.Prelude.{◌≡◌, ◌≢◌, ◌⊎◌, ℕ, ◌+◌, ◌-◌, ◌^◌, ◌≤◌, Bool, true, false, not, All, bytes_eq, is_some, string_bytes, String, List, [], ◌∷◌, ◌++◌, codes, Option, IfSome}
-use Rattle.mt_io.specs.Ends.{Input, Output, Rose, before_known}
+use Rattle.std.specs.Prelude.{◌≡◌, ◌≢◌, ◌⊎◌, ℕ, ◌+◌, ◌-◌, ◌^◌, ◌≤◌, Bool, true, false, not, All, bytes_eq, is_some, string_bytes, String, List, [], ◌∷◌, codes, Option, IfSome}
+use Rattle.mt_io.specs.Ends.{Input, Output, Rose}
 use Rattle.mt_model.specs.declared.entity.Entity.{Entity}
 use Rattle.mt_chain.specs.StoreCall.{Contents}
 use Rattle.mt_chain.specs.Store.{Same}
@@ -8,14 +8,11 @@ use Rattle.mt_chain.specs.Shelf.{Shelf}
 use Rattle.mt_meta.specs.Logical.{pair_of}
 use Rattle.mt_world.specs.Worlds.{WorldState, IsReplayed}
 use Rattle.mt_world.specs.Opening.{IsFresh}
-use Rattle.mt_plain.specs.Left.{Broke, IsUnsupported}
-use Rattle.mt_front.specs.Refusals.{unsupported_reply}
 use Rattle.mt_front.specs.Items.{Item, faults_of}
 use Rattle.mt_front.specs.Answers.{FitsConnection}
-use Rattle.mt_front.specs.Spells.{SpellsAll}
-use Rattle.mt_front.specs.Session.{Sent, Cut, past_of}
+use Rattle.mt_front.specs.Session.{Sent, Cut, past_of, Course, IsCourse, AtInputEnd, AtClose, IsRefused, AtReadFault, AtWriteFault, AtNoMemory}
 use Rattle.mt_top.specs.declared.running.Ending.{Ending}
-use Rattle.mt_top.specs.declared.running.Ending.TheVariants.{Served, BadWords, ReadFault, WriteFault, StoreFault, Occupied, Unsupported, NoMemory}
+use Rattle.mt_top.specs.declared.running.Ending.TheVariants.{Served, BadWords, ReadFault, WriteFault, StoreFault, Occupied, BadInput, NoMemory}
 
 -- the one word `session`
 abbrev pub is_session : {A : Type 0} → List (String A) → Bool
@@ -45,7 +42,7 @@ code_of ReadFault = 3
 code_of WriteFault = 4
 code_of StoreFault = 5
 code_of Occupied = 6
-code_of Unsupported = 7
+code_of BadInput = 7
 code_of NoMemory = 9
 
 abbrev pub is_bad_words : Ending → Bool
@@ -55,7 +52,7 @@ is_bad_words ReadFault = false
 is_bad_words WriteFault = false
 is_bad_words StoreFault = false
 is_bad_words Occupied = false
-is_bad_words Unsupported = false
+is_bad_words BadInput = false
 is_bad_words NoMemory = false
 
 -- where a store tells before and after, this relates the two
@@ -97,16 +94,16 @@ pub record IsWorldOf (v : Service) (w : WorldState) : Type 0 where
 abbrev pub IsReplay : Service → WorldState → Contents → Contents → Type 0
 IsReplay v w old new = IsReplayed w (pair_of v.old_number v.new_number old new)
 
--- what was written, and what is left of the input, by the ending
-abbrev pub Wrote : Service → Input → Output → Ending → List ℕ → Option (List ℕ) → Input → Output → Type 0
-Wrote v s o Served written left t x = IfSome left (λ all. all ≡ []) × IfSome t.left (λ all. all ≡ []) × Sent o written x
-Wrote v s o BadWords written left t x = ⊥
-Wrote v s o ReadFault written left t x = Broke v.table left s t × Sent o written x
-Wrote v s o WriteFault written left t x = Cut o written x ⊎ (IsUnsupported v.table left × Cut o (written ++ unsupported_reply) x)
-Wrote v s o StoreFault written left t x = ⊥
-Wrote v s o Occupied written left t x = ⊥
-Wrote v s o Unsupported written left t x = IsUnsupported v.table left × Sent o (written ++ unsupported_reply) x
-Wrote v s o NoMemory written left t x = Sent o written x
+-- what was read and written, and what is left of the input, by the ending
+abbrev pub Wrote : Input → Output → Ending → Course → Input → Output → Type 0
+Wrote s o Served c t x = AtInputEnd s o c t x ⊎ AtClose s o c t x
+Wrote s o BadWords c t x = ⊥
+Wrote s o ReadFault c t x = AtReadFault s o c t x
+Wrote s o WriteFault c t x = AtWriteFault s o c t x
+Wrote s o StoreFault c t x = ⊥
+Wrote s o Occupied c t x = ⊥
+Wrote s o BadInput c t x = (owed : List ℕ) × IsRefused s c t owed × Sent o owed x
+Wrote s o NoMemory c t x = AtNoMemory o c x
 
 -- replies that a store failed are no more than the rise of the depot's count; a count at its end says nothing more
 abbrev pub FaultsRose : ℕ → List Item → ℕ → Type 0
@@ -114,20 +111,16 @@ FaultsRose before items now = (before + faults_of items ≤ now) ⊎ (2 ^ 64 - 1
 
 -- both stores were found without a row and not sealed; the requests are the bytes, in order, up to what is left; there is a world whose history they fit, which has nothing else; and the stores hold what it made of the table
 pub record During (v : Service) (s : Input) (o : Output) (ending : Ending) (c : Tellings) (before now : ℕ) (t : Input) (x : Output) : Type 0 where
-  pub items : List Item
-  pub read : List ℕ
-  pub written : List ℕ
-  pub left : Option (List ℕ)
+  pub course : Course
   pub world : WorldState
   pub world_is : IsWorldOf v world
-  pub spelled : SpellsAll v.table items read written
-  pub read_is : s.left ≡ before_known read left
-  pub answered : FitsConnection 0 (AllTell c) (past_of world) 0 items []
+  pub is_course : IsCourse v.table s course
+  pub answered : FitsConnection 0 (AllTell c) (past_of world) 0 course.items []
   pub own : All (λ e. e.caller ≡ 0) world.history.entries
   pub fresh : Along (λ a b. IsFresh a) c.old_before c.old_after × Along (λ a b. IsFresh a) c.new_before c.new_after
   pub replayed : IfSome c.old_before (λ a. IfSome c.new_before (λ a'. IfSome c.old_after (λ b. IfSome c.new_after (λ b'. IsReplay v world b b'))))
-  pub caused : FaultsRose before items now
-  pub wrote : Wrote v s o ending written left t x
+  pub caused : FaultsRose before course.items now
+  pub wrote : Wrote s o ending course t x
 
 -- what each ending says; a store fails the run only while it is opened
 abbrev pub RunEnds : Service → Input → Output → Ending → Tellings → ℕ → ℕ → Input → Output → Type 0
@@ -137,7 +130,7 @@ RunEnds v s o ReadFault c before now t x = During v s o ReadFault c before now t
 RunEnds v s o WriteFault c before now t x = During v s o WriteFault c before now t x
 RunEnds v s o StoreFault c before now t x = Idle s o c t x × Rose before now
 RunEnds v s o Occupied c before now t x = Idle s o c t x × (NotFresh c.old_before c.old_after ⊎ NotFresh c.new_before c.new_after)
-RunEnds v s o Unsupported c before now t x = During v s o Unsupported c before now t x
+RunEnds v s o BadInput c before now t x = During v s o BadInput c before now t x
 RunEnds v s o NoMemory c before now t x = Idle s o c t x ⊎ During v s o NoMemory c before now t x
 
 -- ---- over a depot

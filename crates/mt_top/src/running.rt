@@ -22,10 +22,10 @@ const HISTORY_LIMIT: u64 = 1_048_576;
 
 /// The exit status of a run.
 ///
-/// 0: the input was plain requests to its end, and each was answered. 2: the words are no command. 3: a
-/// read failed. 4: a write failed. 5: the depot or a store failed while the stores were opened. 6: a
-/// store has a row or is sealed at the start. 7: the input had something else than a plain request.
-/// 9: the allocator had no memory.
+/// 0: the input was whole requests to its end, or to one that ended the connection, and each was
+/// answered. 2: the words are no command. 3: a read failed. 4: a write failed. 5: the depot or a store
+/// failed while the stores were opened. 6: a store has a row or is sealed at the start. 7: the input
+/// had something else than a whole request within the limits. 9: the allocator had no memory.
 #[derive(Clone, Copy, Debug, PartialEq, Eq)]
 pub struct Status {
     pub code: u8,
@@ -34,7 +34,7 @@ pub struct Status {
 /// How a run ended.
 #[derive(Clone, Copy, Debug, PartialEq, Eq)]
 pub enum Ending {
-    /// The input was plain requests to its end.
+    /// The input was whole requests to its end, or to one that ended the connection.
     Served,
     /// The words are no command.
     BadWords,
@@ -46,8 +46,8 @@ pub enum Ending {
     StoreFault,
     /// A store has a row or is sealed at the start.
     Occupied,
-    /// The input had something else than a plain request.
-    Unsupported,
+    /// The input had something else than a whole request within the limits.
+    BadInput,
     /// The allocator had no memory.
     NoMemory,
 }
@@ -63,7 +63,7 @@ impl Ending {
             Ending::WriteFault => 4,
             Ending::StoreFault => 5,
             Ending::Occupied => 6,
-            Ending::Unsupported => 7,
+            Ending::BadInput => 7,
             Ending::NoMemory => 9,
         }
     }
@@ -96,8 +96,8 @@ fn ending_at(end: End) -> Ending
     ensures { result ≡ ending_at end }
 {
     match end {
-        End::Input => Ending::Served,
-        End::BadInput => Ending::Unsupported,
+        End::Input | End::Closed => Ending::Served,
+        End::BadInput => Ending::BadInput,
     }
 }
 
@@ -174,8 +174,8 @@ fn over_depot<S: Source, T: Sink, D: Depot>(
     ending
 }
 
-/// Runs the program with these words: `session` reads plain requests on the table `Orders` from the
-/// source and writes their replies to the sink, over the stores 0 and 1 of the depot, which begin
+/// Runs the program with these words: `session` reads requests on the table `Orders` from the source
+/// and writes their replies to the sink, over the stores 0 and 1 of the depot, which begin
 /// without rows. The history takes at most 1,048,576 entries. Every store that was opened is handed
 /// back.
 pub fn run<S: Source, T: Sink, D: Depot>(

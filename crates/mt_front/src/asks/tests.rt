@@ -1,41 +1,20 @@
 use super::{Asked, Echo, asked_by};
 use crate::refusals::BadRequest;
 use mt_chain::{Cond, Op};
+use mt_http_in::{Field, Fields, Incoming};
 use mt_model::{Blob, Key, Name, Prop, Props, Tag, Text, Value};
-use mt_plain::{Action, IfMatch, PlainRequest, Route};
 use std::alloc::Global;
 use std::test::Fail;
 
-/// What a request is sent to.
+/// A request on the table `Orders`: its method, its target, two fields, of which those without a name
+/// are left out, and its body.
 #[derive(Clone, Copy)]
-enum Target {
-    Table,
-
-    /// The entity of the key `p`, `r`.
-    Entity(Action),
-
-    /// An entity whose partition key has 1,025 bytes.
-    LongKey(Action),
-}
-
-#[derive(Clone, Copy)]
-enum Content {
-    /// The keys `p` and `r`, and the property `A` of value `x`.
-    Entity,
-    /// Other keys, of which one is too long, and the property.
-    OtherKeys,
-    NoKeys,
-    Slash,
-    SlashAndBadName,
-    NoJson,
-}
-
-/// A request, but for its content.
-#[derive(Clone, Copy)]
-struct Head {
-    target: Target,
-    if_match: IfMatch,
-    no_content: bool,
+struct Sent {
+    method: &'static str,
+    target: &'static str,
+    first: (&'static str, &'static str),
+    second: (&'static str, &'static str),
+    body: &'static str,
 }
 
 /// What is asked for, in short.
@@ -52,58 +31,59 @@ enum Got {
 
 const TAG: Tag = Tag { store: 1, n: 7 };
 
-fn long_text(alloc: Global) -> Result<Text, Fail> {
-    let mut text = String::new(alloc);
-    for _ in 0..1025 {
-        text.push_str("k")?;
-    }
-    Ok(Text::from_string(text))
+const NONE: (&str, &str) = ("", "");
+
+/// The entity of the key `p`, `r`.
+const ENTITY: &str = "/Orders(PartitionKey='p',RowKey='r')";
+
+/// The keys `p` and `r`, and the property `A` of value `x`.
+const BODY: &str = r#"{"PartitionKey":"p","RowKey":"r","A":"x"}"#;
+
+/// Other keys, of which one is no text, and the property.
+const OTHER_KEYS: &str = r#"{"PartitionKey":"/","RowKey":1,"A":"x"}"#;
+
+const INSERT: Sent = Sent {
+    method: "POST",
+    target: "/Orders",
+    first: NONE,
+    second: NONE,
+    body: BODY,
+};
+
+const PUT: Sent = Sent {
+    method: "PUT",
+    target: ENTITY,
+    body: OTHER_KEYS,
+    ..INSERT
+};
+
+fn field(alloc: Global, field: (&str, &str)) -> Result<Field, Fail> {
+    Ok(Field {
+        name: Text::of(alloc, field.0)?,
+        value: Blob::of(alloc, field.1.as_bytes())?,
+    })
 }
 
-fn route_of(alloc: Global, target: Target) -> Result<Route, Fail> {
-    match target {
-        Target::Table => Ok(Route::Table),
-        Target::Entity(action) => Ok(Route::Entity {
-            action,
-            pk: Text::of(alloc, "p")?,
-            rk: Text::of(alloc, "r")?,
-        }),
-        Target::LongKey(action) => Ok(Route::Entity {
-            action,
-            pk: long_text(alloc)?,
-            rk: Text::of(alloc, "r")?,
-        }),
-    }
-}
-
-fn body_of(alloc: Global, content: Content) -> Result<Blob, Fail> {
-    match content {
-        Content::OtherKeys => {
-            let long = long_text(alloc)?;
-            let text = format!(in alloc;
-                "{{\"PartitionKey\":\"{long}\",\"RowKey\":1,\"A\":\"x\"}}"
-            )?;
-            Ok(Blob::of(alloc, text.as_bytes())?)
+fn fields_of(alloc: Global, sent: Sent) -> Result<Fields, Fail> {
+    let mut fields = Vec::new(alloc);
+    for named in [sent.first, sent.second] {
+        if !named.0.is_empty() {
+            fields.push(field(alloc, named)?)?;
         }
-        Content::Entity => Ok(Blob::of(alloc, br#"{"PartitionKey":"p","RowKey":"r","A":"x"}"#)?),
-        Content::NoKeys => Ok(Blob::of(alloc, br#"{"A":"x"}"#)?),
-        Content::Slash => Ok(Blob::of(alloc, br#"{"PartitionKey":"p/","RowKey":"r"}"#)?),
-        Content::SlashAndBadName => Ok(Blob::of(
-            alloc,
-            br#"{"PartitionKey":"p/","RowKey":"r","9":1}"#,
-        )?),
-        Content::NoJson => Ok(Blob::of(alloc, b"{")?),
     }
+    Ok(Fields::of(fields))
 }
 
-fn asked(alloc: Global, head: Head, content: Content) -> Result<Asked, Fail> {
-    let request = PlainRequest {
-        route: route_of(alloc, head.target)?,
-        if_match: head.if_match,
-        no_content: head.no_content,
-        body: body_of(alloc, content)?,
+fn asked(alloc: Global, sent: Sent) -> Result<Asked, Fail> {
+    let request = Incoming {
+        method: Text::of(alloc, sent.method)?,
+        target: Text::of(alloc, sent.target)?,
+        fields: fields_of(alloc, sent)?,
+        body: Blob::of(alloc, sent.body.as_bytes())?,
+        keep: true,
     };
-    Ok(asked_by(alloc, request)?)
+    let table = Text::of(alloc, "Orders")?;
+    Ok(asked_by(alloc, &table, request)?)
 }
 
 fn op_shortly(op: &Op, echo: Echo) -> Got {
@@ -124,170 +104,219 @@ fn shortly(asked: &Asked) -> Got {
     }
 }
 
-fn asked_shortly(alloc: Global, head: Head, content: Content) -> Result<Got, Fail> {
-    let asked = asked(alloc, head, content)?;
+fn asked_shortly(alloc: Global, sent: Sent) -> Result<Got, Fail> {
+    let asked = asked(alloc, sent)?;
+    Ok(shortly(&asked))
+}
+
+const OTHER: Got = Got::Refused(BadRequest::NotImplemented);
+
+const UNMATCHED: Got = Got::Refused(BadRequest::MissingIfMatch);
+
+#[test]
+fn routes(rt: HostRuntime) -> Result<(), Fail> {
+    let alloc = rt.alloc();
+    for (method, target, want) in [
+        ("POST", "/Orders", Got::Insert(Echo::Entity)),
+        ("POST", "/oRDERS", Got::Insert(Echo::Entity)),
+        ("PUT", ENTITY, Got::InsertOrReplace),
+        ("MERGE", ENTITY, Got::InsertOrMerge),
+        ("PATCH", ENTITY, Got::InsertOrMerge),
+        ("DELETE", ENTITY, UNMATCHED),
+        (
+            "PUT",
+            "/ORDERS(PartitionKey='P0',RowKey='9r')",
+            Got::InsertOrReplace,
+        ),
+        ("DELETE", "/Orders(PartitionKey='',RowKey='')", UNMATCHED),
+        ("GET", "/Orders", OTHER),
+        ("HEAD", "/Orders", OTHER),
+        ("post", "/Orders", OTHER),
+        ("PUT", "/Orders", OTHER),
+        ("POST", ENTITY, OTHER),
+        ("POST", "/Orders?timeout=1", OTHER),
+        ("POST", "/Orders()", OTHER),
+        ("POST", "/Order", OTHER),
+        ("POST", "/Orders2", OTHER),
+        ("POST", "Orders", OTHER),
+        ("POST", "http://host/Orders", OTHER),
+        ("PUT", "/Orders(PartitionKey='p-q',RowKey='r')", OTHER),
+        ("PUT", "/Orders(PartitionKey='p',RowKey='%72')", OTHER),
+        ("PUT", "/Orders(PartitionKey='p',RowKey='r''s')", OTHER),
+        ("PUT", "/Orders(RowKey='r',PartitionKey='p')", OTHER),
+        ("PUT", "/Orders(partitionkey='p',rowkey='r')", OTHER),
+        ("PUT", "/Orders(PartitionKey='p', RowKey='r')", OTHER),
+        ("PUT", "/Orders(PartitionKey='p',RowKey='r')?x", OTHER),
+        ("DELETE", "/Order(PartitionKey='p',RowKey='r')", OTHER),
+    ] {
+        let sent = Sent {
+            method,
+            target,
+            ..INSERT
+        };
+        let got = asked_shortly(alloc, sent)?;
+        assert!(rt; got == want, "{got:?} for {method} {target}");
+    }
+    Ok(())
+}
+
+#[test]
+fn conditions(rt: HostRuntime) -> Result<(), Fail> {
+    let alloc = rt.alloc();
+    let tagged = Got::Replace(Cond::Is(TAG));
+    let bad = Got::Refused(BadRequest::BadETag);
+    for (first, second, want) in [
+        (NONE, NONE, Got::InsertOrReplace),
+        (("If-Match", "*"), NONE, Got::Replace(Cond::Any)),
+        (("iF-mATCH", "W/\"1.7\""), NONE, tagged),
+        (("If-Match", "\"1.7\""), NONE, bad),
+        (("If-Match", "W/\"01.7\""), NONE, bad),
+        (("If-Match", "W/\"4294967296.7\""), NONE, bad),
+        (("If-Match", "*, *"), NONE, bad),
+        (("If-Match", ""), NONE, bad),
+        (
+            ("If-Match", "*"),
+            ("If-Match", "W/\"1.7\""),
+            Got::Replace(Cond::Any),
+        ),
+        (("If-Match", "W/\"1.7\""), ("if-match", "*"), tagged),
+        (("If-None-Match", "*"), NONE, Got::InsertOrReplace),
+        (("Prefer", "return-no-content"), ("If-Match", "x"), bad),
+    ] {
+        let sent = Sent {
+            first,
+            second,
+            ..PUT
+        };
+        let got = asked_shortly(alloc, sent)?;
+        let value = first.1;
+        assert!(rt; got == want, "{got:?} for {value}");
+    }
+    Ok(())
+}
+
+#[test]
+fn methods(rt: HostRuntime) -> Result<(), Fail> {
+    let alloc = rt.alloc();
+    for (method, value, want) in [
+        ("MERGE", "*", Got::Merge(Cond::Any)),
+        ("PATCH", "W/\"1.7\"", Got::Merge(Cond::Is(TAG))),
+        ("MERGE", "x", Got::Refused(BadRequest::BadETag)),
+        ("DELETE", "*", Got::Delete(Cond::Any)),
+        ("DELETE", "W/\"1.7\"", Got::Delete(Cond::Is(TAG))),
+        ("DELETE", "x", Got::Refused(BadRequest::BadETag)),
+    ] {
+        let sent = Sent {
+            method,
+            first: ("If-Match", value),
+            ..PUT
+        };
+        let got = asked_shortly(alloc, sent)?;
+        assert!(rt; got == want, "{got:?} for {method}");
+    }
+    Ok(())
+}
+
+#[test]
+fn preferences(rt: HostRuntime) -> Result<(), Fail> {
+    let alloc = rt.alloc();
+    let wait = ("Prefer", "wait=1");
+    let quiet = ("PREFER", "Return-No-Content");
+    for (first, second, echo) in [
+        (NONE, NONE, Echo::Entity),
+        (quiet, NONE, Echo::NoContent),
+        (("Prefer", "return-content"), NONE, Echo::Entity),
+        (("Prefer", "return-no-content, wait=1"), NONE, Echo::Entity),
+        (wait, quiet, Echo::Entity),
+        (quiet, wait, Echo::NoContent),
+        (("If-Match", "nonsense"), NONE, Echo::Entity),
+    ] {
+        let sent = Sent {
+            first,
+            second,
+            ..INSERT
+        };
+        let got = asked_shortly(alloc, sent)?;
+        let value = first.1;
+        assert!(rt; got == Got::Insert(echo), "{got:?} for {value}");
+    }
+    Ok(())
+}
+
+#[test]
+fn bodies_of_inserts(rt: HostRuntime) -> Result<(), Fail> {
+    let alloc = rt.alloc();
+    for (body, refusal) in [
+        ("{", BadRequest::InvalidJson),
+        (r#"{"A":"x"}"#, BadRequest::MissingKey),
+        (
+            r#"{"PartitionKey":"p/","RowKey":"r"}"#,
+            BadRequest::KeyCharacter,
+        ),
+        (
+            r#"{"PartitionKey":"p/","RowKey":"r","9":1}"#,
+            BadRequest::BadName,
+        ),
+    ] {
+        let got = asked_shortly(alloc, Sent { body, ..INSERT })?;
+        assert!(rt; got == Got::Refused(refusal), "{got:?}");
+    }
+    Ok(())
+}
+
+/// If-Match comes before the key in the target, and that before the body.
+#[test]
+fn refuses_in_order(rt: HostRuntime) -> Result<(), Fail> {
+    let alloc = rt.alloc();
+    for (method, value, want) in [
+        ("PUT", "x", Got::Refused(BadRequest::BadETag)),
+        ("PUT", "*", Got::Refused(BadRequest::InvalidJson)),
+        ("MERGE", "*", Got::Refused(BadRequest::InvalidJson)),
+        ("DELETE", "*", Got::Delete(Cond::Any)),
+    ] {
+        let sent = Sent {
+            method,
+            first: ("If-Match", value),
+            body: "{",
+            ..PUT
+        };
+        let got = asked_shortly(alloc, sent)?;
+        assert!(rt; got == want, "{got:?} for {method}");
+    }
+    Ok(())
+}
+
+/// What a request asks whose partition key has 1,025 bytes, and whose body is no JSON.
+fn asked_of_long_key(alloc: Global, method: &str, value: &'static str) -> Result<Got, Fail> {
+    let key = "k".repeat(alloc, 1025)?;
+    let target = format!(in alloc; "/Orders(PartitionKey='{key}',RowKey='r')")?;
+    let sent = Sent {
+        first: ("If-Match", value),
+        ..PUT
+    };
+    let request = Incoming {
+        method: Text::of(alloc, method)?,
+        target: Text::from_string(target),
+        fields: fields_of(alloc, sent)?,
+        body: Blob::of(alloc, b"{")?,
+        keep: true,
+    };
+    let table = Text::of(alloc, "Orders")?;
+    let asked = asked_by(alloc, &table, request)?;
     Ok(shortly(&asked))
 }
 
 #[test]
-fn reads_inserts(rt: HostRuntime) -> Result<(), Fail> {
+fn long_keys(rt: HostRuntime) -> Result<(), Fail> {
     let alloc = rt.alloc();
-    for (if_match, no_content, content, want) in [
-        (
-            IfMatch::Absent,
-            false,
-            Content::Entity,
-            Got::Insert(Echo::Entity),
-        ),
-        (
-            IfMatch::Absent,
-            true,
-            Content::Entity,
-            Got::Insert(Echo::NoContent),
-        ),
-        (
-            IfMatch::Unreadable,
-            false,
-            Content::Entity,
-            Got::Insert(Echo::Entity),
-        ),
-        (
-            IfMatch::Absent,
-            false,
-            Content::NoJson,
-            Got::Refused(BadRequest::InvalidJson),
-        ),
-        (
-            IfMatch::Absent,
-            true,
-            Content::NoKeys,
-            Got::Refused(BadRequest::MissingKey),
-        ),
-        (
-            IfMatch::Absent,
-            false,
-            Content::Slash,
-            Got::Refused(BadRequest::KeyCharacter),
-        ),
-        (
-            IfMatch::Absent,
-            false,
-            Content::SlashAndBadName,
-            Got::Refused(BadRequest::BadName),
-        ),
+    for (method, value, refusal) in [
+        ("PUT", "x", BadRequest::BadETag),
+        ("PUT", "*", BadRequest::KeyTooLong),
+        ("MERGE", "*", BadRequest::KeyTooLong),
+        ("DELETE", "*", BadRequest::KeyTooLong),
     ] {
-        let head = Head {
-            target: Target::Table,
-            if_match,
-            no_content,
-        };
-        let got = asked_shortly(alloc, head, content)?;
-        assert!(rt; got == want, "{got:?}");
-    }
-    Ok(())
-}
-
-#[test]
-fn reads_conditions(rt: HostRuntime) -> Result<(), Fail> {
-    let alloc = rt.alloc();
-    for (action, if_match, want) in [
-        (Action::Put, IfMatch::Absent, Got::InsertOrReplace),
-        (Action::Put, IfMatch::Any, Got::Replace(Cond::Any)),
-        (Action::Put, IfMatch::Is(TAG), Got::Replace(Cond::Is(TAG))),
-        (Action::Merge, IfMatch::Absent, Got::InsertOrMerge),
-        (Action::Merge, IfMatch::Any, Got::Merge(Cond::Any)),
-        (Action::Merge, IfMatch::Is(TAG), Got::Merge(Cond::Is(TAG))),
-        (
-            Action::Delete,
-            IfMatch::Absent,
-            Got::Refused(BadRequest::MissingIfMatch),
-        ),
-        (Action::Delete, IfMatch::Any, Got::Delete(Cond::Any)),
-        (Action::Delete, IfMatch::Is(TAG), Got::Delete(Cond::Is(TAG))),
-        (
-            Action::Put,
-            IfMatch::Unreadable,
-            Got::Refused(BadRequest::BadETag),
-        ),
-        (
-            Action::Merge,
-            IfMatch::Unreadable,
-            Got::Refused(BadRequest::BadETag),
-        ),
-        (
-            Action::Delete,
-            IfMatch::Unreadable,
-            Got::Refused(BadRequest::BadETag),
-        ),
-    ] {
-        let head = Head {
-            target: Target::Entity(action),
-            if_match,
-            no_content: false,
-        };
-        let got = asked_shortly(alloc, head, Content::OtherKeys)?;
-        assert!(rt; got == want, "{got:?}");
-    }
-    Ok(())
-}
-
-#[test]
-fn refuses_in_order(rt: HostRuntime) -> Result<(), Fail> {
-    let alloc = rt.alloc();
-    for (target, if_match, want) in [
-        (
-            Target::LongKey(Action::Put),
-            IfMatch::Unreadable,
-            Got::Refused(BadRequest::BadETag),
-        ),
-        (
-            Target::LongKey(Action::Delete),
-            IfMatch::Absent,
-            Got::Refused(BadRequest::MissingIfMatch),
-        ),
-        (
-            Target::LongKey(Action::Put),
-            IfMatch::Absent,
-            Got::Refused(BadRequest::KeyTooLong),
-        ),
-        (
-            Target::LongKey(Action::Merge),
-            IfMatch::Any,
-            Got::Refused(BadRequest::KeyTooLong),
-        ),
-        (
-            Target::LongKey(Action::Delete),
-            IfMatch::Any,
-            Got::Refused(BadRequest::KeyTooLong),
-        ),
-        (
-            Target::Entity(Action::Put),
-            IfMatch::Unreadable,
-            Got::Refused(BadRequest::BadETag),
-        ),
-        (
-            Target::Entity(Action::Put),
-            IfMatch::Absent,
-            Got::Refused(BadRequest::InvalidJson),
-        ),
-        (
-            Target::Entity(Action::Merge),
-            IfMatch::Any,
-            Got::Refused(BadRequest::InvalidJson),
-        ),
-        (
-            Target::Entity(Action::Delete),
-            IfMatch::Any,
-            Got::Delete(Cond::Any),
-        ),
-    ] {
-        let head = Head {
-            target,
-            if_match,
-            no_content: true,
-        };
-        let got = asked_shortly(alloc, head, Content::NoJson)?;
-        assert!(rt; got == want, "{got:?}");
+        let got = asked_of_long_key(alloc, method, value)?;
+        assert!(rt; got == Got::Refused(refusal), "{got:?} for {method}");
     }
     Ok(())
 }
@@ -313,12 +342,12 @@ fn props_of(op: &Op) -> Option<&Props> {
     }
 }
 
-/// Whether an operation on the key `p`, `r` with the property `A` is asked for, or a delete there.
+/// Whether an operation on the key `P`, `r` with the property `A` is asked for, or a delete there.
 fn is_as_sent(alloc: Global, asked: &Asked) -> Result<bool, Fail> {
     let Asked::Write { op, .. } = asked else {
         return Ok(false);
     };
-    let want = Key::read(alloc, "p", "r")?;
+    let want = Key::read(alloc, "P", "r")?;
     let sent = props(alloc)?;
     let is_sent = match props_of(op) {
         Some(props) => *props == sent,
@@ -330,40 +359,24 @@ fn is_as_sent(alloc: Global, asked: &Asked) -> Result<bool, Fail> {
 #[test]
 fn keeps_key_and_properties(rt: HostRuntime) -> Result<(), Fail> {
     let alloc = rt.alloc();
-    for (target, if_match, content) in [
-        (Target::Table, IfMatch::Absent, Content::Entity),
-        (
-            Target::Entity(Action::Put),
-            IfMatch::Absent,
-            Content::OtherKeys,
-        ),
-        (
-            Target::Entity(Action::Put),
-            IfMatch::Any,
-            Content::OtherKeys,
-        ),
-        (
-            Target::Entity(Action::Merge),
-            IfMatch::Absent,
-            Content::NoKeys,
-        ),
-        (
-            Target::Entity(Action::Merge),
-            IfMatch::Any,
-            Content::OtherKeys,
-        ),
-        (
-            Target::Entity(Action::Delete),
-            IfMatch::Any,
-            Content::NoJson,
-        ),
+    let at = "/orders(PartitionKey='P',RowKey='r')";
+    let own = r#"{"PartitionKey":"P","RowKey":"r","A":"x"}"#;
+    for (method, target, first, body) in [
+        ("POST", "/orders", NONE, own),
+        ("PUT", at, NONE, OTHER_KEYS),
+        ("PUT", at, ("If-Match", "*"), OTHER_KEYS),
+        ("MERGE", at, NONE, OTHER_KEYS),
+        ("MERGE", at, ("If-Match", "*"), OTHER_KEYS),
+        ("DELETE", at, ("If-Match", "*"), "{"),
     ] {
-        let head = Head {
+        let sent = Sent {
+            method,
             target,
-            if_match,
-            no_content: false,
+            first,
+            body,
+            ..INSERT
         };
-        let asked = asked(alloc, head, content)?;
+        let asked = asked(alloc, sent)?;
         let got = shortly(&asked);
         assert!(rt; is_as_sent(alloc, &asked)?, "{got:?}");
     }

@@ -1,4 +1,4 @@
-use super::{BadRequest, bad_request, cause_reply, history_full, store_fault, unsupported};
+use super::{BadRequest, bad_request, cause_reply, history_full, store_fault};
 use mt_chain::Cause;
 use std::alloc::Global;
 use std::test::Fail;
@@ -96,6 +96,60 @@ fn refuses_bad_requests(rt: HostRuntime) -> Result<(), Fail> {
 }
 
 #[test]
+fn refuses_what_is_no_request(rt: HostRuntime) -> Result<(), Fail> {
+    let alloc = rt.alloc();
+    for (refusal, status, size, code, sentence) in [
+        (
+            BadRequest::InvalidHead,
+            "400 Bad Request",
+            106,
+            "InvalidHead",
+            "The request head is not valid.",
+        ),
+        (
+            BadRequest::InvalidFraming,
+            "400 Bad Request",
+            108,
+            "InvalidFraming",
+            "The body length is not valid.",
+        ),
+        (
+            BadRequest::RequestBodyTooLarge,
+            "413 Payload Too Large",
+            114,
+            "RequestBodyTooLarge",
+            "The request body is too large.",
+        ),
+        (
+            BadRequest::InvalidBody,
+            "400 Bad Request",
+            109,
+            "InvalidBody",
+            "The request body is not complete.",
+        ),
+        (
+            BadRequest::CompressedBody,
+            "501 Not Implemented",
+            115,
+            "CompressedBody",
+            "Compressed bodies are not supported.",
+        ),
+        (
+            BadRequest::NotImplemented,
+            "501 Not Implemented",
+            108,
+            "NotImplemented",
+            "The request is not supported.",
+        ),
+    ] {
+        let got = bad_request(refusal);
+        let want = text_of(alloc, status, size, code, sentence)?;
+        assert!(rt; got == want.as_str(), "{got}");
+    }
+    Ok(())
+}
+
+#[test]
 fn tells_causes(rt: HostRuntime) -> Result<(), Fail> {
     let alloc = rt.alloc();
     for (cause, status, size, code, sentence) in [
@@ -152,10 +206,6 @@ fn tells_faults(rt: HostRuntime) -> Result<(), Fail> {
         (
             history_full(),
             "HTTP/1.1 507 Insufficient Storage\r\nContent-Type: application/json\r\nContent-Length: 96\r\n\r\n{\"odata.error\":{\"code\":\"HistoryFull\",\"message\":{\"lang\":\"en-US\",\"value\":\"The history is full.\"}}}",
-        ),
-        (
-            unsupported(),
-            "HTTP/1.1 501 Not Implemented\r\nContent-Type: application/json\r\nContent-Length: 108\r\nConnection: close\r\n\r\n{\"odata.error\":{\"code\":\"NotImplemented\",\"message\":{\"lang\":\"en-US\",\"value\":\"The request is not supported.\"}}}",
         ),
     ] {
         assert!(rt; got == want, "{got}");

@@ -1,5 +1,9 @@
-use Rattle.mt_front.proofs.AskLaws.{table_asks}
+use Rattle.std.proofs.Common.{◌∙◌}
+use Rattle.mt_front.specs.Asks.{request_of}
+use Rattle.mt_front.proofs.AskLaws.{not_routed}
 use Rattle.mt_front.proofs.asks.asked_by.Goals as goal
 
-pub returns-in-Table-clause-asks : goal.returns-in-Table-clause-asks
-returns-in-Table-clause-asks c = table_asks c.args.request c.as_slice-bytes.result.now c.insert_by.result c.in-Table.is c.as_slice-bytes.ensures c.insert_by.ensures.asks
+pub returns-clause-asks : goal.returns-clause-asks
+returns-clause-asks c =
+    not_routed c.args.table.now (request_of c.args.request) c.as_bytes-method.result.now c.as_bytes-target.result.now (rw c.in-None.is at c.in_ok-at.ensures)
+    (c.as_bytes-method.ensures.value ∙ c.as_str.ensures) (c.as_bytes-target.ensures.value ∙ c.as_str-2.ensures)

@@ -39,3 +39,21 @@ returns-in-PropertyTooLarge c = bad_is bad.PropertyTooLarge ∙ ap bad_reply (sy
 
 pub returns-in-EntityTooLarge : goal.returns-in-EntityTooLarge
 returns-in-EntityTooLarge c = bad_is bad.EntityTooLarge ∙ ap bad_reply (sym c.in-EntityTooLarge.is)
+
+pub returns-in-InvalidHead : goal.returns-in-InvalidHead
+returns-in-InvalidHead c = bad_is bad.InvalidHead ∙ ap bad_reply (sym c.in-InvalidHead.is)
+
+pub returns-in-InvalidFraming : goal.returns-in-InvalidFraming
+returns-in-InvalidFraming c = bad_is bad.InvalidFraming ∙ ap bad_reply (sym c.in-InvalidFraming.is)
+
+pub returns-in-RequestBodyTooLarge : goal.returns-in-RequestBodyTooLarge
+returns-in-RequestBodyTooLarge c = bad_is bad.RequestBodyTooLarge ∙ ap bad_reply (sym c.in-RequestBodyTooLarge.is)
+
+pub returns-in-InvalidBody : goal.returns-in-InvalidBody
+returns-in-InvalidBody c = bad_is bad.InvalidBody ∙ ap bad_reply (sym c.in-InvalidBody.is)
+
+pub returns-in-CompressedBody : goal.returns-in-CompressedBody
+returns-in-CompressedBody c = bad_is bad.CompressedBody ∙ ap bad_reply (sym c.in-CompressedBody.is)
+
+pub returns-in-NotImplemented : goal.returns-in-NotImplemented
+returns-in-NotImplemented c = bad_is bad.NotImplemented ∙ ap bad_reply (sym c.in-NotImplemented.is)

@@ -10,8 +10,8 @@ enum Output {
     Nothing,
     Usage,
     Created,
-    Unsupported,
-    CreatedAndUnsupported,
+    OtherAndCreated,
+    CreatedAndOther,
 }
 
 const USAGE: &str = "usage: mtable session|drill|serve [options]\n";
@@ -21,9 +21,11 @@ fn text_of(alloc: Global, output: Output) -> Result<String, Fail> {
         Output::Nothing => Ok(String::new(alloc)),
         Output::Usage => Ok(String::from_str(alloc, USAGE)?),
         Output::Created => reply_of(alloc, Reply::Created("r", 2)),
-        Output::Unsupported => reply_of(alloc, Reply::Unsupported),
-        Output::CreatedAndUnsupported => {
-            replies_of(alloc, &[Reply::Created("r", 2), Reply::Unsupported])
+        Output::OtherAndCreated => {
+            replies_of(alloc, &[Reply::NotImplemented, Reply::Created("r", 2)])
+        }
+        Output::CreatedAndOther => {
+            replies_of(alloc, &[Reply::Created("r", 2), Reply::NotImplemented])
         }
     }
 }
@@ -32,15 +34,14 @@ fn text_of(alloc: Global, output: Output) -> Result<String, Fail> {
 fn ends_of_the_input(rt: HostRuntime) -> Result<(), Fail> {
     let alloc = rt.alloc();
     let insert = Ask::Insert("r");
-    for (asks, status, want) in [
-        ([Ask::Get, insert], 7, Output::Unsupported),
-        ([insert, Ask::Get], 7, Output::CreatedAndUnsupported),
-        ([insert, Ask::CutOff], 7, Output::CreatedAndUnsupported),
+    for (asks, want) in [
+        ([Ask::Get, insert], Output::OtherAndCreated),
+        ([insert, Ask::Get], Output::CreatedAndOther),
     ] {
         let input = requests_of(alloc, &asks)?;
         let want = text_of(alloc, want)?;
         let (found, got) = ran(alloc, PLAIN, input.as_str())?;
-        assert!(rt; found == status);
+        assert!(rt; found == 0);
         assert!(rt; got.as_str() == want.as_str(), "{got}");
     }
     let (status, got) = ran(alloc, PLAIN, "")?;

@@ -36,9 +36,6 @@ pub enum Ask {
 
     /// `GET` on the table.
     Get,
-
-    /// An insert that ends before its body does.
-    CutOff,
 }
 
 /// A reply, with the number in the row's tag.
@@ -55,7 +52,7 @@ pub enum Reply {
     Exists,
     ConditionFailed,
     StoreFault,
-    Unsupported,
+    NotImplemented,
 }
 
 fn match_of(alloc: Global, says: Match) -> Result<String, Fail> {
@@ -96,10 +93,6 @@ pub fn request_of(alloc: Global, ask: Ask) -> Result<String, Fail> {
         Ask::Merge(row, says) => entity_of(alloc, "MERGE", row, says, "{\"B\":\"y\"}"),
         Ask::Delete(row, says) => entity_of(alloc, "DELETE", row, says, ""),
         Ask::Get => Ok(String::from_str(alloc, "GET /Orders HTTP/1.1\r\nHost: x\r\n\r\n")?),
-        Ask::CutOff => Ok(String::from_str(
-            alloc,
-            "POST /Orders HTTP/1.1\r\nContent-Length: 3\r\n\r\n{}",
-        )?),
     }
 }
 
@@ -147,9 +140,6 @@ fn written_of(alloc: Global, reply: Reply) -> Result<String, Fail> {
     }
 }
 
-const UNSUPPORTED: &str =
-    "HTTP/1.1 501 Not Implemented\r\nContent-Type: application/json\r\nContent-Length: 108\r\nConnection: close\r\n\r\n{\"odata.error\":{\"code\":\"NotImplemented\",\"message\":{\"lang\":\"en-US\",\"value\":\"The request is not supported.\"}}}";
-
 pub fn reply_of(alloc: Global, reply: Reply) -> Result<String, Fail> {
     let (status, code, sentence) = match reply {
         Reply::BadETag => ("400 Bad Request", "BadETag", "The ETag is not valid."),
@@ -170,7 +160,11 @@ pub fn reply_of(alloc: Global, reply: Reply) -> Result<String, Fail> {
             "The update condition was not satisfied.",
         ),
         Reply::StoreFault => ("500 Internal Server Error", "StoreFault", "A store failed."),
-        Reply::Unsupported => return Ok(String::from_str(alloc, UNSUPPORTED)?),
+        Reply::NotImplemented => (
+            "501 Not Implemented",
+            "NotImplemented",
+            "The request is not supported.",
+        ),
         _ => return written_of(alloc, reply),
     };
     error_of(alloc, status, code, sentence)

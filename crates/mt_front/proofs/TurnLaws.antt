@@ -1,0 +1,249 @@
+-- How a request was answered, and what one turn of a session did.
+use Rattle.std.proofs.Common.{◌≡◌, ℕ, ◌≤◌, Bool, true, false, not, List, [], ◌++◌, Ok, Err, refl, sym, ap, ◌∙◌, arith, subst, append_assoc, inl, inr}
+use Rattle.std.specs.Prelude.{Result, Some}
+use Rattle.httparse.specs.Grammar.{RequestHead, print_request}
+use Rattle.mt_io.specs.Ends.{Input, Output, Rose, before_known, after_known}
+use Rattle.mt_io.proofs.Pieces.{after_after, before_before}
+use Rattle.mt_http_in.specs.declared.Code.{Code}
+use Rattle.mt_http_in.specs.declared.Code.TheVariants.{InvalidHead, InvalidFraming, RequestBodyTooLarge, InvalidBody, CompressedBody}
+use Rattle.mt_http_in.specs.declared.InFault.{InFault}
+use Rattle.mt_http_in.specs.declared.InFault.TheVariants as fault
+use Rattle.mt_http_in.specs.declared.requests.Incoming.{Incoming}
+use Rattle.mt_http_in.specs.Fields.{keeps_open}
+use Rattle.mt_http_in.specs.Heads.{fields_of}
+use Rattle.mt_http_in.specs.Reading.{ahead, Closes}
+use Rattle.mt_http_in.specs.Requests.{ReadsRequest, HoldsRequest, Got, Packed, Closed as ClosedBy, Starved, RefusedAs, continue_of}
+use Rattle.mt_http_in.specs.Requests as http
+use Rattle.mt_world.specs.Worlds.{WorldState}
+use Rattle.mt_world.specs.WholeCalls.{Mark}
+use Rattle.mt_chain.specs.declared.op.Op.{Op}
+use Rattle.mt_front.specs.declared.refusals.BadRequest.TheVariants as bad
+use Rattle.mt_front.specs.declared.asks.Asked.{Asked}
+use Rattle.mt_front.specs.declared.asks.Asked.TheVariants as asked
+use Rattle.mt_front.specs.declared.asks.Echo.{Echo}
+use Rattle.mt_front.specs.declared.connection.Outcome.{Outcome}
+use Rattle.mt_front.specs.declared.connection.Outcome.TheVariants as outcome
+use Rattle.mt_front.specs.declared.connection.End.TheVariants.{BadInput}
+use Rattle.mt_front.specs.declared.connection.ConnFault.{ConnFault}
+use Rattle.mt_front.specs.declared.connection.ConnFault.TheVariants.{ReadFault, WriteFault, NoMemory}
+use Rattle.mt_front.specs.declared.connection.Turn.{Turn}
+use Rattle.mt_front.specs.declared.connection.Turn.TheVariants.{Ended}
+use Rattle.mt_front.specs.Refusals.{head_refusal, bad_reply, cause_reply, fault_reply, full_reply, closing, sent_as}
+use Rattle.mt_front.specs.Replies.{IsDoneReply}
+use Rattle.mt_front.specs.Asks.{RequestAsks, AsksUnpacked, request_by, request_of}
+use Rattle.mt_front.specs.Items.{Item, Bad, Renders, IsRendered, entries_of}
+use Rattle.mt_front.specs.Answers.{IsCaused}
+use Rattle.mt_front.specs.Session.{Sent, Cut, counts_of, Added, IsSaid}
+use Rattle.mt_front.specs.Turns.{CameOut, Tries, outcome_of, tried_item, left_by, WritesReply, RepliedAs, Answering, AnswersAs, AnswersOne, AnswersWhole, AnswersWholeAs, AnswersRequest, RefusesAs, FaultedAs, AnswersFault, OneMore, IsRefusal, StarvedAt, TurnAs, SessionTurn, turn_behind, turn_refused, refusal_bytes, LeavesNothing}
+use Rattle.mt_front.proofs.CameLaws.{same_self, told_self, came_bad, caused_bad, added_self}
+
+-- ---- bytes sent one after the other
+
+pub sent_after : (o y x : Output) (a b : List ℕ) → Sent o a y → Sent y b x → Sent o (a ++ b) x
+sent_after o y x a b p q = q ∙ ap (λ h. after_known h b) p ∙ after_after o.held a b
+
+pub cut_after : (o y x : Output) (a b : List ℕ) → o.faults ≤ y.faults → Sent o a y → Cut y b x → Cut o (a ++ b) x
+cut_after o y x a b le p q =
+    let rose : Rose y.faults x.faults = q.cause in
+    record {
+      part = a ++ q.part;
+      rest = q.rest;
+      is = ap (λ v. a ++ v) q.is ∙ sym (append_assoc a q.part q.rest);
+      held = sent_after o y x a q.part p q.held;
+      cause = omega arith;
+    }
+
+-- ---- an answer whose reply was tried
+
+-- the bytes are the reply to an operation that came to this
+abbrev pub RepliesWrite : Op → Echo → Outcome → List ℕ → Type 0
+RepliesWrite op echo (outcome.Done tag) bytes = IsDoneReply echo op tag bytes
+RepliesWrite op echo (outcome.Refused refusal) bytes = bytes ≡ cause_reply refusal.cause
+RepliesWrite op echo outcome.Fault bytes = bytes ≡ fault_reply
+RepliesWrite op echo outcome.Full bytes = bytes ≡ full_reply
+
+module _ (c : ℕ) (w w' : WorldState) (o x : Output) where
+  pub answered : (asks : Asked) (keep : Bool) (item : Item) (r : Result (Unit {0}) ConnFault) → item.asks ≡ asks → item.keep ≡ keep → CameOut c w item w' → IsCaused (counts_of w) item (counts_of w') → Added c w w' → IsRendered item → WritesReply o (sent_as keep item.reply) r x → AnswersOne c w o asks keep r w' x
+  answered asks keep item (Ok u) is kept came cause added rendered reply = record { faults_out = reply.faults; answers = record { item = item; is_asked = is; keep_is = kept; came = came; caused = cause; added = added; rendered = rendered; replied = reply.replied } }
+  answered asks keep item (Err ReadFault) is kept came cause added rendered reply = absurd reply.replied
+  answered asks keep item (Err WriteFault) is kept came cause added rendered reply = record { faults_out = reply.faults; answers = record { item = item; is_asked = is; keep_is = kept; came = came; caused = cause; added = added; rendered = rendered; replied = reply.replied } }
+  answered asks keep item (Err NoMemory) is kept came cause added rendered reply = absurd reply.replied
+
+  -- an operation that was tried, whose bytes are the reply to what it came to
+  rendered_by : (op : Op) (echo : Echo) (out : Outcome) (marks : List Mark) (bytes : List ℕ) → entries_of marks ≡ left_by op out → RepliesWrite op echo out bytes → Renders (asked.Write op echo) (outcome_of out) marks bytes
+  rendered_by op echo (outcome.Done tag) marks bytes left is = (left, is)
+  rendered_by op echo (outcome.Refused refusal) marks bytes left is = (left, is)
+  rendered_by op echo outcome.Fault marks bytes left is = (left, is)
+  rendered_by op echo outcome.Full marks bytes left is = (left, is)
+
+  pub tried_answered : (op : Op) (echo : Echo) (keep : Bool) (out : Outcome) (bytes : List ℕ) (r : Result (Unit {0}) ConnFault) → Tries c w op (Ok out) w' → RepliesWrite op echo out bytes → WritesReply o (sent_as keep bytes) r x → AnswersOne c w o (asked.Write op echo) keep r w' x
+  tried_answered op echo keep out bytes r tries is reply =
+      answered (asked.Write op echo) keep (tried_item op out echo keep tries.0 bytes) r refl refl (tries.1.came echo keep bytes) (tries.1.caused echo keep bytes) tries.1.added
+      (rendered_by op echo out tries.0 bytes tries.1.left is) reply
+
+  -- the answer to a request that asks for this
+  pub whole_answered : (table : List ℕ) (v : Incoming) (asks : Asked) (turn : Turn) → RequestAsks table (request_of v) asks → turn ≡ turn_behind v.keep → AnswersOne c w o asks v.keep (Ok tt) w' x → AnswersRequest c table w o v (Ok turn) w' x
+  whole_answered table v asks turn a is n = record { faults_out = n.faults_out; answers = (is, record { asks = asks; is_asked = a; answering = n.answers }) }
+
+  whole_as : (table : List ℕ) (v : Incoming) (asks : Asked) (f : ConnFault) → RequestAsks table (request_of v) asks → AnswersAs c w o asks v.keep (Err f) w' x → AnswersWholeAs c table w o v (Err f) w' x
+  whole_as table v asks ReadFault a n = absurd n
+  whole_as table v asks WriteFault a n = record { asks = asks; is_asked = a; answering = n }
+  whole_as table v asks NoMemory a n = n
+
+  pub whole_failed : (table : List ℕ) (v : Incoming) (asks : Asked) (f : ConnFault) → RequestAsks table (request_of v) asks → AnswersOne c w o asks v.keep (Err f) w' x → AnswersRequest c table w o v (Err f) w' x
+  whole_failed table v asks f a n = record { faults_out = n.faults_out; answers = whole_as table v asks f a n.answers }
+
+-- ---- what was refused
+
+pub refused_sent : (o x : Output) (code : Code) (close : Bool) (bytes : List ℕ) (turn : Turn) → bytes ≡ bad_reply (head_refusal code) → turn ≡ turn_refused code close → WritesReply o (sent_as (not close) bytes) (Ok tt) x → RefusesAs o code close (Ok turn) x
+refused_sent o x code close bytes turn is at y = (at, subst (λ b. Sent o (sent_as (not close) b) x) is y.replied)
+
+-- ---- a turn: a request was read, and then answered
+
+same_request : (v : Incoming) (h : RequestHead) (body : List ℕ) → HoldsRequest v h body → request_of v ≡ request_by h body
+same_request v h body holds =
+    ap (λ m. record { method = m; target = v.target; fields = v.fields; body = v.body }) holds.method
+    ∙ ap (λ t. record { method = h.method; target = t; fields = v.fields; body = v.body }) holds.target
+    ∙ ap (λ fs. record { method = h.method; target = h.target; fields = fs; body = v.body }) holds.fields
+    ∙ ap (λ b. record { method = h.method; target = h.target; fields = fields_of h; body = b }) holds.body_is
+
+module _ (c : ℕ) (table kept : List ℕ) (s : Input) (o : Output) (w : WorldState) (kept' : List ℕ) (t : Input) (y : Output) (x : Output) (w' : WorldState) where
+  one_more : (v : Incoming) (r : Result (Unit {0}) ConnFault) → ReadsRequest kept s o (Ok (Some v)) kept' t y → AnswersWhole c table w y v r w' x → OneMore c table kept s o w v.keep r kept' t x w'
+  one_more v r read a =
+      let h : RequestHead = read.read.0 in
+      let body : List ℕ = read.read.1 in
+      record {
+        head = h;
+        body = body;
+        between = y;
+        got = read.read.2;
+        later = read.later_out.faults;
+        asks = a.asks;
+        is_asked = subst (λ b. AsksUnpacked b table (request_by h body) a.asks) (sym read.read.4) (subst (λ q. RequestAsks table q a.asks) (same_request v h body read.read.3) a.is_asked);
+        keep_is = read.read.3.keep;
+        answering = a.answering;
+      }
+
+  went_on : (keep : Bool) → OneMore c table kept s o w keep (Ok tt) kept' t x w' → TurnAs c table kept s o w (Ok (turn_behind keep)) kept' t x w'
+  went_on true m = m
+  went_on false m = m
+
+  -- the head of a whole request, whose 100 Continue was written
+  said_of : (h : RequestHead) (body : List ℕ) → Got kept s o h body kept' t y → IsSaid (ahead kept s) (continue_of h)
+  said_of h body got = inr (
+    h,
+    record {
+      is_head = got.whole.head;
+      rest = before_known got.whole.coda (ahead kept' t);
+      at = got.spent.same ∙ ap (λ b. before_known b (ahead kept' t)) got.whole.is ∙ sym (before_before (print_request h) got.whole.coda (ahead kept' t));
+      spoken = refl;
+    },
+  )
+
+  turn_by : (v : Incoming) (r : Result Turn ConnFault) → ReadsRequest kept s o (Ok (Some v)) kept' t y → AnswersWholeAs c table w y v r w' x → TurnAs c table kept s o w r kept' t x w'
+  turn_by v (Ok turn) read a = subst (λ n. TurnAs c table kept s o w (Ok n) kept' t x w') (sym a.0) (went_on v.keep (one_more v (Ok tt) read a.1))
+  turn_by v (Err ReadFault) read a = absurd a
+  turn_by v (Err WriteFault) read a = inl (v.keep, one_more v (Err WriteFault) read a)
+  turn_by v (Err NoMemory) read a = (a.0, record { said = continue_of read.read.0; spoken = said_of read.read.0 read.read.1 read.read.2; sent = subst (λ z. Sent o (continue_of read.read.0) z) (sym a.1) read.read.2.said })
+
+  pub turn_answered : (v : Incoming) (r : Result Turn ConnFault) → ReadsRequest kept s o (Ok (Some v)) kept' t y → AnswersRequest c table w y v r w' x → SessionTurn c table kept s o w r kept' t x w'
+  turn_answered v r read a = record { later = read.later; faults_out = let f : o.faults ≤ y.faults = read.later_out.faults in omega (arith, f, a.faults_out); turn = turn_by v r read a.answers }
+
+-- ---- a turn: nothing was read that can be tried
+
+not_not : (b : Bool) → not (not b) ≡ b
+not_not true = refl
+not_not false = refl
+
+leaves_nothing : (w : WorldState) → LeavesNothing w w
+leaves_nothing w = record { same = same_self w; retired = refl; told = told_self w; entries = refl; still = refl }
+
+module _ (c : ℕ) (table kept : List ℕ) (s : Input) (o : Output) (w : WorldState) (kept' : List ℕ) (t : Input) (y x : Output) (later : o.faults ≤ y.faults) where
+  starved_at : Starved kept s o y → StarvedAt (ahead kept s) o y
+  starved_at n = record {
+    said = n.bytes;
+    spoken = elim n.spoken as (λ _. IsSaid (ahead kept s) n.bytes) [
+      | inl none ↦ inl none
+      | inr i ↦ inr (i.head, record { is_head = i.is_head; rest = ahead i.kept' i.t; at = i.spent.same; spoken = i.spoken })
+    ];
+    sent = n.said;
+  }
+
+  refusal_of : (code : Code) (close : Bool) → Closes code → (b : ClosedBy kept s o code close t y) → IsRefusal kept s (b.bytes ++ closing (bad_reply (head_refusal code))) t
+  refusal_of code close closes b = record { code = code; said = b.bytes; closes = closes; refuses = b.refuses; owed_is = refl; ended = b.ended }
+
+  closed_bytes : (code : Code) (close : Bool) → close ≡ true → refusal_bytes code close ≡ closing (bad_reply (head_refusal code))
+  closed_bytes code close e = ap (λ b. sent_as (not b) (bad_reply (head_refusal code))) e
+
+  closed_turn : (code : Code) (close : Bool) (r : Result Turn ConnFault) → Closes code → turn_refused code close ≡ Ended BadInput → ClosedBy kept s o code close t y → RefusesAs y code close r x → TurnAs c table kept s o w r kept' t x w
+  closed_turn code close (Ok turn) closes is b a =
+      let reply = closing (bad_reply (head_refusal code)) in
+      subst (λ n. TurnAs c table kept s o w (Ok n) kept' t x w) (sym (a.0 ∙ is)) (
+        b.bytes ++ reply,
+        refusal_of code close closes b,
+        sent_after o y x b.bytes reply b.said (subst (λ z. Sent y z x) (closed_bytes code close b.closes) a.1),
+        refl,
+      )
+  closed_turn code close (Err ReadFault) closes is b a = absurd a
+  closed_turn code close (Err WriteFault) closes is b a =
+      let reply = closing (bad_reply (head_refusal code)) in
+      inr (inr (
+        b.bytes ++ reply,
+        refusal_of code close closes b,
+        cut_after o y x b.bytes reply later b.said (subst (λ z. Cut y z x) (closed_bytes code close b.closes) a),
+        refl,
+      ))
+  closed_turn code close (Err NoMemory) closes is b a = absurd a
+
+  abbrev pub packed_item : Bool → Item
+  packed_item close = record { asks = asked.Refused bad.CompressedBody; keep = not close; outcome = Bad bad.CompressedBody; reply = bad_reply bad.CompressedBody; marks = [] }
+
+  packed_more : (close : Bool) (r : Result (Unit {0}) ConnFault) (p : Packed kept s o close kept' t y) → Answering c w y (asked.Refused bad.CompressedBody) (not close) r w x → OneMore c table kept s o w (not close) r kept' t x w
+  packed_more close r p a = record {
+    head = p.head;
+    body = p.body;
+    between = y;
+    got = p.got;
+    later = later;
+    asks = asked.Refused bad.CompressedBody;
+    is_asked = subst (λ b. AsksUnpacked b table (request_by p.head p.body) (asked.Refused bad.CompressedBody)) (sym p.packed) refl;
+    keep_is = ap not p.closes ∙ not_not (keeps_open p.head.minor (fields_of p.head));
+    answering = a;
+  }
+
+  packed_answer : (close : Bool) (r : Result (Unit {0}) ConnFault) → RepliedAs y (refusal_bytes CompressedBody close) r x → Answering c w y (asked.Refused bad.CompressedBody) (not close) r w x
+  packed_answer close r reply = record {
+    item = packed_item close;
+    is_asked = refl;
+    keep_is = refl;
+    came = came_bad c w bad.CompressedBody (not close) (bad_reply bad.CompressedBody);
+    caused = caused_bad (counts_of w) bad.CompressedBody (not close) (bad_reply bad.CompressedBody);
+    added = added_self c w;
+    rendered = (refl, refl, refl);
+    replied = reply;
+  }
+
+  packed_turn : (close : Bool) (r : Result Turn ConnFault) → Packed kept s o close kept' t y → RefusesAs y CompressedBody close r x → TurnAs c table kept s o w r kept' t x w
+  packed_turn close (Ok turn) p a =
+      subst (λ n. TurnAs c table kept s o w (Ok n) kept' t x w) (sym a.0) (went_on c table kept s o w kept' t y x w (not close) (packed_more close (Ok tt) p (packed_answer close (Ok tt) a.1)))
+  packed_turn close (Err ReadFault) p a = absurd a
+  packed_turn close (Err WriteFault) p a = inl (not close, packed_more close (Err WriteFault) p (packed_answer close (Err WriteFault) a))
+  packed_turn close (Err NoMemory) p a = absurd a
+
+  refused_turn : (code : Code) (close : Bool) (r : Result Turn ConnFault) → RefusedAs kept s o code close kept' t y → RefusesAs y code close r x → TurnAs c table kept s o w r kept' t x w
+  refused_turn InvalidHead close r b a = closed_turn InvalidHead close r tt refl b a
+  refused_turn InvalidFraming close r b a = closed_turn InvalidFraming close r tt refl b a
+  refused_turn RequestBodyTooLarge close r b a = closed_turn RequestBodyTooLarge close r tt refl b a
+  refused_turn InvalidBody close r b a = closed_turn InvalidBody close r tt refl b a
+  refused_turn CompressedBody close r b a = packed_turn close r b a
+
+  faulted_turn : (f : InFault) (r : Result Turn ConnFault) → ReadsRequest kept s o (Err f) kept' t y → FaultedAs y f r x → TurnAs c table kept s o w r kept' t x w
+  faulted_turn fault.ReadFault r read a = subst (λ n. TurnAs c table kept s o w n kept' t x w) (sym a.0) (subst (λ z. http.BrokeIn kept s o t z) (sym a.1) read.read, refl)
+  faulted_turn fault.WriteFault r read a = subst (λ n. TurnAs c table kept s o w n kept' t x w) (sym a.0) (inr (inl (subst (λ z. http.BrokeOut kept s o kept' t z) (sym a.1) read.read, refl)))
+  faulted_turn fault.NoMemory r read a = subst (λ n. TurnAs c table kept s o w n kept' t x w) (sym a.0) (leaves_nothing w, subst (λ z. StarvedAt (ahead kept s) o z) (sym a.1) (starved_at read.read))
+  faulted_turn (fault.Refused status code close) r read a = refused_turn code close r read.read.1 a
+
+pub turn_faulted : (c : ℕ) (table kept : List ℕ) (s : Input) (o : Output) (w : WorldState) (kept' : List ℕ) (t : Input) (y x : Output) (f : InFault) (r : Result Turn ConnFault) → ReadsRequest kept s o (Err f) kept' t y → AnswersFault y f r x → SessionTurn c table kept s o w r kept' t x w
+turn_faulted c table kept s o w kept' t y x f r read a =
+    let later : o.faults ≤ y.faults = read.later_out.faults in
+    record { later = read.later; faults_out = omega (arith, later, a.faults_out); turn = faulted_turn c table kept s o w kept' t y x later f r read a.answers }
