@@ -168,15 +168,10 @@ chunk_done copying (Some rk) = at.ReadOld (record { part = copying.part; pass = 
 abbrev pub compared : Copying → Option (List ℕ) → List StoredRow → List StoredRow → State
 compared copying upto rows entries = if is_wanting upto rows entries then at.Write copying upto rows entries else chunk_done copying upto
 
--- new was read: the chunk is compared where new's marker is of the epoch
-abbrev pub read_new : Copying → Reading → Reading → Option StoredRow → State
-read_new copying old new None = at.Look copying.part
-read_new copying old new (Some m) = if is_same_tag m.tag copying.epoch then compared copying (chunk_end old new) old.rows new.rows else at.Look copying.part
-
--- where the chunk ends, at a reply that shows it
-abbrev pub end_read : State → StoreReply → Option (List ℕ)
-end_read (at.ReadNew copying old) (reply.Found found) = chunk_end old (record { rows = found.rows; more = found.more })
-end_read state r = None
+-- new was read: the chunk, which ends there, is compared where new's marker is of the epoch
+abbrev pub read_new : Copying → Option (List ℕ) → List StoredRow → List StoredRow → Option StoredRow → State
+read_new copying upto rows entries None = at.Look copying.part
+read_new copying upto rows entries (Some m) = if is_same_tag m.tag copying.epoch then compared copying upto rows entries else at.Look copying.part
 
 -- the epoch is over, or an entry is another one: then the chunk is read again
 abbrev pub unwritten : Copying → ℕ → State
@@ -185,27 +180,61 @@ unwritten copying index = if index == 0 then at.Look copying.part else at.ReadOl
 abbrev pub reading_of : Found → Reading
 reading_of found = record { rows = found.rows; more = found.more }
 
+-- where the chunk ends, at a reply that shows it
+abbrev pub end_read : State → StoreReply → Option (List ℕ)
+end_read (at.ReadNew copying old) (reply.Found found) = chunk_end old (reading_of found)
+end_read state r = None
+
+-- the next partition was told
+abbrev pub after_next : State → Option (List ℕ) → State
+after_next (at.Walk walk from) pk = walked walk pk
+after_next state pk = state
+
+-- old was sealed
+abbrev pub after_seal : State → State
+after_seal at.SealOld = at.Walk AfterSeal (start.From [])
+after_seal state = state
+
+-- rows were read
+abbrev pub after_read : State → Found → State
+after_read (at.Look part) found = looked part found.named
+after_read (at.Claim part pass) found = claimed part pass (row_in found.named marker_key)
+after_read (at.ReadOld copying) found = read_old copying (reading_of found) (row_in found.named marker_key)
+after_read (at.ReadNew copying old) found = read_new copying (chunk_end old (reading_of found)) old.rows found.rows (row_in found.named marker_key)
+after_read state found = state
+
+-- puts were made; this is the tag of the first
+abbrev pub after_write : State → Tag → State
+after_write (at.Prepare part rows) tag = at.Claim part (First tag)
+after_write (at.Begin part pass) tag = pass_begun part pass tag
+after_write (at.Takeover part pass filling) tag = pass_begun part pass tag
+after_write (at.Write copying upto rows entries) tag = chunk_done copying upto
+after_write (at.Switch part marker epoch) tag = pass_begun part Second epoch
+after_write (at.Finish part epoch) tag = onward part
+after_write state tag = state
+
+-- puts were not made, since old is sealed and has dropped the partition: it is looked at again
+abbrev pub after_sealed_off : State → State
+after_sealed_off (at.Prepare part rows) = at.Look part
+after_sealed_off (at.Begin part pass) = at.Look part
+after_sealed_off (at.Takeover part pass filling) = at.Look part
+after_sealed_off (at.Write copying upto rows entries) = at.Look copying.part
+after_sealed_off (at.Switch part marker epoch) = at.Look part
+after_sealed_off (at.Finish part epoch) = at.Look part
+after_sealed_off state = state
+
+-- puts were not made, since the one of this index does not hold
+abbrev pub after_unmet : State → ℕ → State
+after_unmet (at.Write copying upto rows entries) index = unwritten copying index
+after_unmet state index = after_sealed_off state
+
 abbrev pub moved : State → StoreReply → State
-moved (at.Walk walk from) (reply.Next next) = walked walk next.pk
-moved at.SealOld reply.SealDone = at.Walk AfterSeal (start.From [])
-moved (at.Look part) (reply.Found found) = looked part found.named
-moved (at.Prepare part rows) (reply.Applied tags) = at.Claim part (First (first_tag tags))
-moved (at.Prepare part rows) r = at.Look part
-moved (at.Claim part pass) (reply.Found found) = claimed part pass (row_in found.named marker_key)
-moved (at.Begin part pass) (reply.Applied tags) = pass_begun part pass (first_tag tags)
-moved (at.Begin part pass) r = at.Look part
-moved (at.Takeover part pass filling) (reply.Applied tags) = pass_begun part pass (first_tag tags)
-moved (at.Takeover part pass filling) r = at.Look part
-moved (at.ReadOld copying) (reply.Found found) = read_old copying (reading_of found) (row_in found.named marker_key)
-moved (at.ReadNew copying old) (reply.Found found) = read_new copying old (reading_of found) (row_in found.named marker_key)
-moved (at.Write copying upto rows entries) (reply.Applied tags) = chunk_done copying upto
-moved (at.Write copying upto rows entries) (reply.Unmet index) = unwritten copying index
-moved (at.Write copying upto rows entries) r = at.Look copying.part
-moved (at.Switch part marker epoch) (reply.Applied tags) = pass_begun part Second epoch
-moved (at.Switch part marker epoch) r = at.Look part
-moved (at.Finish part epoch) (reply.Applied tags) = onward part
-moved (at.Finish part epoch) r = at.Look part
-moved state r = state
+moved state (reply.Next next) = after_next state next.pk
+moved state reply.SealDone = after_seal state
+moved state (reply.Found found) = after_read state found
+moved state (reply.Applied tags) = after_write state (first_tag tags)
+moved state (reply.Unmet index) = after_unmet state index
+moved state reply.SealedOff = after_sealed_off state
 
 abbrev pub progress_at : State → MoveProgress
 progress_at at.Done = progress.Done

@@ -66,11 +66,16 @@ pub(crate) fn chunk_end(alloc: Global, old: &Reading, new: &Found) -> Result<Opt
 }
 
 /// The first visible property, and those behind it.
-fn split_visible(props: &[Prop]) -> Option<(&Prop, &[Prop])>
+fn split_visible(mut props: &[Prop]) -> Option<(&Prop, &[Prop])>
     ensures { MatchOption result (filter is_visible props.now ≡ []) (λ r. filter is_visible props.now ≡ r.0.now ∷ filter is_visible r.1.now) }
 {
-    let at = props.iter().position(|p| p.is_visible())?;
-    Some((&props[at], &props[at + 1..]))
+    while let Some((prop, rest)) = props.split_first() {
+        if prop.is_visible() {
+            return Some((prop, rest));
+        }
+        props = rest;
+    }
+    None
 }
 
 /// Whether the visible properties are equal.
@@ -79,16 +84,17 @@ fn are_alike(a: &Props, b: &Props) -> bool
 {
     let mut a = a.as_slice();
     let mut b = b.as_slice();
-    loop {
-        match (split_visible(a), split_visible(b)) {
-            (None, None) => return true,
-            (Some((p, rest)), Some((q, others))) if p == q => {
-                a = rest;
-                b = others;
-            }
-            _ => return false,
+    while let Some((prop, rest)) = split_visible(a) {
+        let Some((other, others)) = split_visible(b) else {
+            return false;
+        };
+        if prop != other {
+            return false;
         }
+        a = rest;
+        b = others;
     }
+    split_visible(b).is_none()
 }
 
 /// What a key of a chunk wants.

@@ -1,9 +1,8 @@
 //! A migrator.
-ghost use Rattle.std.specs.Prelude.{◌≡◌, List, IfOk, IfErr};
-ghost use Rattle.mt_model.specs.declared.tag.Tag.{Tag};
+ghost use Rattle.std.specs.Prelude.{◌≡◌, IfOk, IfErr};
 ghost use Rattle.mt_chain.specs.declared.ask.StoreAsk.{StoreAsk};
 ghost use Rattle.mt_chain.specs.Asks.{CanAsk, FitsAsk};
-ghost use Rattle.mt_migrate.specs.Moves.{Asks, Absorbs, MigratorFits, GoesOn, TakesMemory, begin, moved, first_tag, end_read, progress_at};
+ghost use Rattle.mt_migrate.specs.Moves.{Asks, Absorbs, MigratorFits, GoesOn, TakesMemory, begin, end_read, after_next, after_seal, after_read, after_write, after_sealed_off, after_unmet, moved, progress_at};
 
 use crate::asks::{
     bear_new, marker_tag, next_of, read_marker, read_new, read_old, turn_new, turn_old,
@@ -61,10 +60,30 @@ fn end_read(
     }
 }
 
-/// Where the reply to a read leads.
-fn read(alloc: Global, state: State, found: Found, upto: Option<Text>) -> State
+/// The next partition was told.
+fn after_next(state: State, pk: Option<Text>) -> State
+    ensures { result ≡ after_next state pk }
+{
+    match state {
+        State::Walk { walk, .. } => moves::walked(walk, pk),
+        state => state,
+    }
+}
+
+/// Old was sealed.
+fn after_seal(alloc: Global, state: State) -> State
+    ensures { result ≡ after_seal state }
+{
+    match state {
+        State::SealOld => moves::walk_from_start(alloc, Walk::AfterSeal),
+        state => state,
+    }
+}
+
+/// Rows were read, of a chunk that ends there where it has come to its end.
+fn after_read(alloc: Global, state: State, found: Found, upto: Option<Text>) -> State
     requires { upto ≡ end_read state (StoreReply.Found found) }
-    ensures { result ≡ moved state (StoreReply.Found found) }
+    ensures { result ≡ after_read state found }
 {
     let Found {
         named, rows, more, ..
@@ -76,16 +95,15 @@ fn read(alloc: Global, state: State, found: Found, upto: Option<Text>) -> State
             moves::read_old(alloc, copying, Reading { rows, more }, named.get(MARKER_KEY))
         }
         State::ReadNew { copying, old } => {
-            let marker = named.get(MARKER_KEY);
-            moves::read_new(copying, old, Reading { rows, more }, upto, marker)
+            moves::read_new(copying, upto, old.rows, rows, named.get(MARKER_KEY))
         }
-        state => unwritten(state),
+        state => state,
     }
 }
 
-/// Where a put that was made leads.
-fn written(state: State, tag: Tag) -> State
-    ensures { (tags : List Tag) → first_tag tags ≡ tag → result ≡ moved state (StoreReply.Applied tags) }
+/// Puts were made; this is the tag of the first.
+fn after_write(state: State, tag: Tag) -> State
+    ensures { result ≡ after_write state tag }
 {
     match state {
         State::Prepare { part, .. } => State::Claim {
@@ -102,18 +120,26 @@ fn written(state: State, tag: Tag) -> State
     }
 }
 
-/// Where a put that was not made leads.
-fn unwritten(state: State) -> State
-    ensures { result ≡ moved state StoreReply.SealedOff }
+/// Puts were not made, since old is sealed and has dropped the partition.
+fn after_sealed_off(state: State) -> State
+    ensures { result ≡ after_sealed_off state }
 {
     match state {
-        State::Prepare { part, .. }
-        | State::Begin { part, .. }
-        | State::Takeover { part, .. }
-        | State::Switch { part, .. }
-        | State::Finish { part, .. } => State::Look { part },
+        State::Prepare { part, .. } => State::Look { part },
+        State::Begin { part, .. } | State::Takeover { part, .. } => State::Look { part },
+        State::Switch { part, .. } | State::Finish { part, .. } => State::Look { part },
         State::Write { copying, .. } => State::Look { part: copying.part },
         state => state,
+    }
+}
+
+/// Puts were not made, since the one of this index does not hold.
+fn after_unmet(state: State, index: u32) -> State
+    ensures { result ≡ after_unmet state index }
+{
+    match state {
+        State::Write { copying, .. } => moves::unwritten(copying, index),
+        state => after_sealed_off(state),
     }
 }
 
@@ -122,15 +148,13 @@ fn moved(alloc: Global, state: State, reply: StoreReply, upto: Option<Text>) -> 
     requires { upto ≡ end_read state reply }
     ensures { result ≡ moved state reply }
 {
-    match (state, reply) {
-        (State::Walk { walk, .. }, StoreReply::Next(next)) => moves::walked(walk, next.pk),
-        (State::SealOld, StoreReply::SealDone) => moves::walk_from_start(alloc, Walk::AfterSeal),
-        (State::Write { copying, .. }, StoreReply::Unmet { index }) => {
-            moves::unwritten(copying, index)
-        }
-        (state, StoreReply::Found(found)) => read(alloc, state, found, upto),
-        (state, StoreReply::Applied(tags)) => written(state, moves::first_tag(&tags)),
-        (state, _) => unwritten(state),
+    match reply {
+        StoreReply::Next(next) => after_next(state, next.pk),
+        StoreReply::SealDone => after_seal(alloc, state),
+        StoreReply::Found(found) => after_read(alloc, state, found, upto),
+        StoreReply::Applied(tags) => after_write(state, moves::first_tag(&tags)),
+        StoreReply::Unmet { index } => after_unmet(state, index),
+        StoreReply::SealedOff => after_sealed_off(state),
     }
 }
 

@@ -2,7 +2,6 @@
 ghost use Rattle.std.specs.Prelude.{◌≡◌, [], option_copied};
 ghost use Rattle.mt_meta.specs.Markers.{marker_key};
 ghost use Rattle.mt_chain.specs.Rows.{row_in};
-ghost use Rattle.mt_migrate.specs.Chunks.{chunk_end};
 ghost use Rattle.mt_migrate.specs.Moves.{begin, onward, walked, by_old_phase, looked, by_new_phase, claimed, pass_begun, first_tag, by_pass, read_old, pass_done, chunk_done, compared, read_new, unwritten};
 
 use crate::asks::NO_TAG;
@@ -234,16 +233,15 @@ fn compared(
 /// New's entries were read, of a chunk that ends there.
 pub(crate) fn read_new(
     copying: Copying,
-    old: Reading,
-    new: Reading,
     upto: Option<Text>,
+    rows: StoredRows,
+    entries: StoredRows,
     marker: Option<&StoredRow>,
 ) -> State
-    requires { upto ≡ chunk_end old new }
-    ensures { result ≡ read_new copying old new (option_copied marker.entry) }
+    ensures { result ≡ read_new copying upto rows entries (option_copied marker.entry) }
 {
     match marker {
-        Some(row) if row.tag == copying.epoch => compared(copying, upto, old.rows, new.rows),
+        Some(row) if row.tag == copying.epoch => compared(copying, upto, rows, entries),
         _ => State::Look { part: copying.part },
     }
 }
