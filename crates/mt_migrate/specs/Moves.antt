@@ -264,5 +264,4 @@ MigratorFits state = Unit {0}
 
 -- it has not come to its end
 abbrev pub GoesOn : State → Type 0
-GoesOn at.Done = ⊥
-GoesOn state = Unit {0}
+GoesOn state = progress_at state ≡ progress.More

@@ -240,9 +240,13 @@ pub(crate) fn read_new(
 ) -> State
     ensures { result ≡ read_new copying upto rows entries (option_copied marker.entry) }
 {
-    match marker {
-        Some(row) if row.tag == copying.epoch => compared(copying, upto, rows, entries),
-        _ => State::Look { part: copying.part },
+    let Some(row) = marker else {
+        return State::Look { part: copying.part };
+    };
+    if row.tag == copying.epoch {
+        compared(copying, upto, rows, entries)
+    } else {
+        State::Look { part: copying.part }
     }
 }
 
