@@ -1,3 +1,4 @@
 pub mod ReadLaws
 pub mod Merging
 pub mod FitLaws
+pub mod MarkerChanges

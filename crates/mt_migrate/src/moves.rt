@@ -1,7 +1,7 @@
 //! Where a migrator goes with what a store replied: one function for each line of its table.
 ghost use Rattle.std.specs.Prelude.{◌≡◌, [], option_copied};
 ghost use Rattle.mt_meta.specs.Markers.{marker_key};
-ghost use Rattle.mt_chain.specs.Rows.{row_in};
+ghost use Rattle.mt_chain.specs.Puts.{is_same_tag};
 ghost use Rattle.mt_migrate.specs.Moves.{begin, onward, walked, by_old_phase, looked, by_new_phase, claimed, pass_begun, first_tag, by_pass, read_old, pass_done, chunk_done, compared, read_new, unwritten};
 
 use crate::asks::NO_TAG;
@@ -230,6 +230,13 @@ fn compared(
     }
 }
 
+/// Whether it is the same tag.
+fn is_same_tag(a: Tag, b: Tag) -> bool
+    ensures { result ≡ is_same_tag a b }
+{
+    a == b
+}
+
 /// New's entries were read, of a chunk that ends there.
 pub(crate) fn read_new(
     copying: Copying,
@@ -243,7 +250,7 @@ pub(crate) fn read_new(
     let Some(row) = marker else {
         return State::Look { part: copying.part };
     };
-    if row.tag == copying.epoch {
+    if is_same_tag(row.tag, copying.epoch) {
         compared(copying, upto, rows, entries)
     } else {
         State::Look { part: copying.part }

@@ -2,7 +2,6 @@ ghost use Rattle.std.specs.Prelude.{◌≡◌, IfOk};
 ghost use Rattle.mt_chain.specs.Puts.{CanApply};
 ghost use Rattle.mt_chain.specs.StoreCall.{CanQuery};
 ghost use Rattle.mt_migrate.specs.Moves.{GoesOn};
-ghost use Rattle.mt_migrate.specs.Tests.{StillGoes};
 
 use crate::{Migrator, MoveProgress};
 use mt_chain::{Keeper, Put, Puts, Range, RangeQuery, RkFrom, Side, StoreReply};
@@ -21,7 +20,7 @@ struct Stores {
 
 /// What came of a step.
 #[derive(Drop)]
-struct Step {
+struct Outcome {
     progress: MoveProgress,
 
     /// The tags of puts that were made, or the index of the one that does not hold.
@@ -91,9 +90,9 @@ fn told(alloc: Global, reply: &StoreReply) -> Result<String, Fail> {
 }
 
 /// One step of a migrator.
-fn step(alloc: Global, migrator: &mut Migrator, stores: &mut Stores) -> Result<Step, Fail>
+fn step(alloc: Global, migrator: &mut Migrator, stores: &mut Stores) -> Result<Outcome, Fail>
     requires { GoesOn migrator.old }
-    ensures { IfOk result (λ s. StillGoes s.progress migrator.new) }
+    ensures { IfOk result (λ s. s.progress ≡ MoveProgress.More → GoesOn migrator.new) }
 {
     let ask = migrator.next(alloc)?;
     let keeper = match ask.side {
@@ -105,7 +104,7 @@ fn step(alloc: Global, migrator: &mut Migrator, stores: &mut Stores) -> Result<S
     };
     let told = told(alloc, &reply)?;
     let progress = migrator.absorb(alloc, reply)?;
-    Ok(Step { progress, told })
+    Ok(Outcome { progress, told })
 }
 
 /// What at most so many steps tell, and how many they are.
@@ -119,9 +118,9 @@ fn run(
 {
     let mut text = String::new(alloc);
     for calls in 0..most {
-        let step = step(alloc, migrator, stores)?;
-        text.push_str(step.told.as_str())?;
-        if step.progress == MoveProgress::Done {
+        let came = step(alloc, migrator, stores)?;
+        text.push_str(came.told.as_str())?;
+        if came.progress == MoveProgress::Done {
             return Ok((calls + 1, text));
         }
     }
