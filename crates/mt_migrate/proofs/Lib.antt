@@ -2,3 +2,4 @@ pub mod ReadLaws
 pub mod Merging
 pub mod FitLaws
 pub mod MarkerChanges
+pub mod CopyChanges

@@ -49,7 +49,7 @@ same_at p q pk h rk = elim (key_cases rk) as (λ _. logical q pk rk ≡ logical 
   | inr other ↦ h rk other
 ]
 
-along : (m m' : Mode) (row row' entry entry' : Option Stored) → m ≡ m' → row ≡ row' → entry ≡ entry' → shown_in m row entry ≡ shown_in m' row' entry'
+pub along : (m m' : Mode) (row row' entry entry' : Option Stored) → m ≡ m' → row ≡ row' → entry ≡ entry' → shown_in m row entry ≡ shown_in m' row' entry'
 along m m' row row' entry entry' a b c = ap (λ x. shown_in x row entry) a ∙ ap (λ x. shown_in m' x entry) b ∙ ap (shown_in m' row') c
 
 fits_at : (p : Pair) (pk : List ℕ) (m : Mode) → IsSound p → mode p pk ≡ m → (rk : List ℕ) → rk ≢ marker_key → FitsMode m (old_at p pk rk) (new_at p pk rk)
@@ -125,7 +125,7 @@ module _ (own : List Fact) (p : Pair) (pk : List ℕ) (next : List Prop) (tag : 
       }
 
 -- what a copy shows while new fills
-copy_through : (row x : Option Stored) → IsCopyOrNone x → from_both row x ≡ from_old row
+pub copy_through : (row x : Option Stored) → IsCopyOrNone x → from_both row x ≡ from_old row
 copy_through row None h = refl
 copy_through row (Some e) h = ap (λ mark. filling_by mark e (from_old row)) h.1
 

@@ -19,7 +19,7 @@ use Rattle.mt_meta.specs.Facts.{is_in}
 use Rattle.mt_model.specs.declared.tag.Tag.{Tag}
 use Rattle.mt_migrate.specs.declared.chunk.Want.{Want}
 use Rattle.mt_migrate.specs.declared.chunk.Want.TheVariants.{Nothing, Insert, Replace, Delete}
-use Rattle.mt_migrate.specs.Chunks.{want_of, is_of_chunk, want_at, is_want, wants_put, props_of, put_by, put_at, ArePuts, first_key, rows_past, with_put}
+use Rattle.mt_migrate.specs.Chunks.{want_of, is_of_chunk, want_at, is_want, wants_put, props_of, put_by, put_at, KeepsTag, IsWanted, ArePuts, first_key, rows_past, with_put}
 
 abbrev pub text_cmp : List ℕ → List ℕ → Ordering
 text_cmp = slice_cmp nat_cmp
@@ -246,7 +246,7 @@ module _ (upto : Option (List ℕ)) (rows entries : List StoredRow) where
     pub new_rising : RisingRows new
     pub rising : RisingPuts puts
     pub below : (k : List ℕ) → left old new k ≡ true → AllBelow k puts
-    pub each : AllByRecursion (λ p. put_at upto rows entries (row_key p) ≡ Some p) puts
+    pub each : AllByRecursion (IsWanted upto rows entries) puts
     pub all : (k : List ℕ) → wants_put upto rows entries k ≡ true → left old new k ≡ false → is_in k (map row_key puts) ≡ true
     pub count : length puts + (length old + length new) ≤ length rows + length entries
 
@@ -281,9 +281,9 @@ module _ (upto : Option (List ℕ)) (rows entries : List StoredRow) where
         | inr there ↦ (let x = p.fewer in let y = q.less there in omega (arith, x, y))
       ]
 
-  pub merge_more : (puts : List Put) (old new : List StoredRow) (m : List ℕ) → Merged puts old new → first_key old new ≡ Some m
+  pub merge_more : (puts : List Put) (old new : List StoredRow) (m : List ℕ) → Merged puts old new → first_key old new ≡ Some m → KeepsTag (want_at upto rows entries m)
       → Merged (with_put puts (put_at upto rows entries m)) (rows_past m old) (rows_past m new)
-  merge_more puts old new m h e = go (put_at upto rows entries m) refl where
+  merge_more puts old new m h e keeps = go (put_at upto rows entries m) refl where
     f : IsFirst old new m
     f = is_first old new m h.old_rising h.new_rising e
 
@@ -331,7 +331,7 @@ module _ (upto : Option (List ℕ)) (rows entries : List StoredRow) where
           new_rising = b.rising;
           rising = rising_more puts p h.rising under;
           below = λ k there. all_more (λ q. text_cmp (row_key q) k ≡ Less) puts p (h.below k (still k there).0) (subst (λ x. text_cmp x k ≡ Less) (sym named) (still k there).1);
-          each = all_more (λ q. put_at upto rows entries (row_key q) ≡ Some q) puts p h.each (subst (λ x. put_at upto rows entries x ≡ Some p) (sym named) is);
+          each = all_more (IsWanted upto rows entries) puts p h.each (subst (λ x. (put_at upto rows entries x ≡ Some p) × KeepsTag (want_at upto rows entries x)) (sym named) (is, keeps));
           all = λ k wants out. elim (taken k out) as (λ _. is_in k (map row_key (puts ++ p ∷ [])) ≡ true) [
             | inl before ↦ in_before k puts p (h.all k wants before)
             | inr same ↦ in_last k puts p (named ∙ sym same)
@@ -348,9 +348,9 @@ module _ (upto : Option (List ℕ)) (rows entries : List StoredRow) where
   never p e h = (let x : None ≡ Some p = sym (ap (put_by (row_key p) (props_of (row_in rows (row_key p)))) (marker_wants (row_key p) e)) ∙ h in cc)
 
   -- no put is of the marker
-  no_marker : (puts : List Put) → AllByRecursion (λ p. put_at upto rows entries (row_key p) ≡ Some p) puts → AllByRecursion (λ k. bytes_eq marker_key k ≡ false) (map row_key puts)
+  no_marker : (puts : List Put) → AllByRecursion (IsWanted upto rows entries) puts → AllByRecursion (λ k. bytes_eq marker_key k ≡ false) (map row_key puts)
   no_marker [] h = tt
-  no_marker (p ∷ puts) h = (text_false marker_key (row_key p) (λ e. never p (sym e) h.0), no_marker puts h.1)
+  no_marker (p ∷ puts) h = (text_false marker_key (row_key p) (λ e. never p (sym e) h.0.0), no_marker puts h.1)
 
   below_apart : (k : List ℕ) (ks : List (List ℕ)) → AllByRecursion (λ y. text_cmp k y ≡ Less) ks → AllByRecursion (λ y. bytes_eq k y ≡ false) ks
   below_apart k [] h = tt

@@ -7,6 +7,7 @@ use Rattle.std.specs.Cmp.Lexicographic.{slice_cmp, pointwise}
 use Rattle.mt_model.specs.declared.tag.Tag.{Tag}
 use Rattle.mt_model.specs.declared.value.Prop.{Prop}
 use Rattle.mt_model.specs.contracts.value.PropPartialEq.TheImpl as prop_eq
+use Rattle.mt_model.specs.Tag.{IsTag}
 use Rattle.mt_model.specs.Props.{is_visible}
 use Rattle.mt_chain.specs.declared.row.StoredRow.{StoredRow}
 use Rattle.mt_chain.specs.declared.row.Put.{Put}
@@ -117,10 +118,20 @@ put_by rk ps (Delete own) = Some (put.Delete rk own)
 abbrev pub put_at : Option (List ℕ) → List StoredRow → List StoredRow → List ℕ → Option Put
 put_at upto rows entries rk = put_by rk (props_of (row_in rows rk)) (want_at upto rows entries rk)
 
+-- a tag that a copy is to keep is one
+abbrev pub KeepsTag : Want → Type 0
+KeepsTag (Insert seen) = IsTag seen
+KeepsTag (Replace seen own) = IsTag seen
+KeepsTag want = Unit {0}
+
+-- the put is the one that its key wants
+abbrev pub IsWanted : Option (List ℕ) → List StoredRow → List StoredRow → Put → Type 0
+IsWanted upto rows entries p = (put_at upto rows entries (row_key p) ≡ Some p) × KeepsTag (want_at upto rows entries (row_key p))
+
 -- the puts of a chunk: each is the one that its key wants, every key that wants one has it, and their keys rise
 pub record ArePuts (upto : Option (List ℕ)) (rows entries : List StoredRow) (puts : List Put) : Type 0 where
   pub rising : IsStrictlySortedBy (slice_cmp nat_cmp) (map row_key puts)
-  pub each : AllByRecursion (λ p. put_at upto rows entries (row_key p) ≡ Some p) puts
+  pub each : AllByRecursion (IsWanted upto rows entries) puts
   pub all : (rk : List ℕ) → wants_put upto rows entries rk ≡ true → is_in rk (map row_key puts) ≡ true
 
 -- ---- the walk over the keys of two lists of rows, in their order

@@ -4,7 +4,7 @@ ghost use Rattle.std.specs.Ordering.{nat_cmp, is_le};
 ghost use Rattle.std.specs.Cmp.Lexicographic.{slice_cmp};
 ghost use Rattle.mt_meta.specs.Marks.{stored};
 ghost use Rattle.mt_chain.specs.declared.row.Put.{Put};
-ghost use Rattle.mt_migrate.specs.Chunks.{props_of, put_by, put_at, ArePuts, first_key, rows_past, with_put};
+ghost use Rattle.mt_migrate.specs.Chunks.{props_of, put_by, want_at, put_at, KeepsTag, ArePuts, first_key, rows_past, with_put};
 
 use crate::chunk::{Want, want_at};
 use mt_chain::{Put, StoredRow, StoredRows};
@@ -34,7 +34,8 @@ fn put_by(
     row: Option<&StoredRow>,
     want: Want,
 ) -> Result<Option<Put>, NoMemory>
-    ensures { IfOk result (λ put. put ≡ put_by rk.now (props_of (option_copied row.entry)) want) }
+    ensures put { IfOk result (λ put. put ≡ put_by rk.now (props_of (option_copied row.entry)) want) }
+    ensures tag { IfOk result (λ put. KeepsTag want) }
 {
     let rk = rk.copy(alloc)?;
     match want {
@@ -64,7 +65,8 @@ fn push_put(
     rk: &Text,
     puts: &mut Vec<Put>,
 ) -> Result<(), NoMemory>
-    ensures { IfOk result (λ u. puts.new.items ≡ with_put puts.old.items (put_at upto.now rows.now entries.now rk.now)) }
+    ensures puts { IfOk result (λ u. puts.new.items ≡ with_put puts.old.items (put_at upto.now rows.now entries.now rk.now)) }
+    ensures tag { IfOk result (λ u. KeepsTag (want_at upto.now rows.now entries.now rk.now)) }
 {
     let want = want_at(upto, rows, entries, rk);
     if let Some(put) = put_by(alloc, rk, rows.get(rk.as_str()), want)? {

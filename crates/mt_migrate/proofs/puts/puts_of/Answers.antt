@@ -23,7 +23,7 @@ loop-rk-preserved c =
     let m = c.in-Some.rk.now in
     let puts = c.loop-rk.invariant.0 in
     let more = with_put puts (put_at upto rows entries m) in
-    (more, c.in_ok-push_put.ensures ∙ ap (λ ps. with_put ps (put_at upto rows entries m)) c.loop-rk.invariant.1 ∙ pushed c.args.first puts (put_at upto rows entries m),
+    (more, c.in_ok-push_put.ensures.puts ∙ ap (λ ps. with_put ps (put_at upto rows entries m)) c.loop-rk.invariant.1 ∙ pushed c.args.first puts (put_at upto rows entries m),
       subst (λ (old : List StoredRow). Merged upto rows entries more old c.rows_past-new.result.now) (sym c.rows_past-old.ensures)
       (subst (λ (new : List StoredRow). Merged upto rows entries more (rows_past m c.loop-rk.old.now) new) (sym c.rows_past-new.ensures)
-      (merge_more upto rows entries puts c.loop-rk.old.now c.loop-rk.new.now m c.loop-rk.invariant.2 (sym c.in-Some.ensures))))
+      (merge_more upto rows entries puts c.loop-rk.old.now c.loop-rk.new.now m c.loop-rk.invariant.2 (sym c.in-Some.ensures) c.in_ok-push_put.ensures.tag)))
