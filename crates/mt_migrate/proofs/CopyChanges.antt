@@ -79,7 +79,7 @@ record LeftCopy (p : Pair) (pk rk : List ℕ) (after : Option Stored) : Type 0 w
   pub entry : (r : Stored) → after ≡ Some r → IsEntry r.props × (key_fault pk rk ≡ None)
   pub kept : (r : Stored) (t : Tag) → after ≡ Some r → mark_of r.props ≡ Some (Copy t) → IsKept p p.new_number t
 
-copy_tag : (a b : Tag) → Some (Copy a) ≡ Some (Copy b) → a ≡ b
+pub copy_tag : (a b : Tag) → Some (Copy a) ≡ Some (Copy b) → a ≡ b
 copy_tag a b e = cc
 
 left_copy : (p : Pair) (pk rk : List ℕ) (props : List Prop) (after : Option Stored) → IsCopyAt p pk rk props → (r : Stored) × (after ≡ Some r) × (r.props ≡ props) → LeftCopy p pk rk after

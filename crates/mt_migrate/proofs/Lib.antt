@@ -3,3 +3,5 @@ pub mod Merging
 pub mod FitLaws
 pub mod MarkerChanges
 pub mod CopyChanges
+pub mod ReadFacts
+pub mod ChunkLaws

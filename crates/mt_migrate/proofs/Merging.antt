@@ -51,7 +51,7 @@ le_apart a b le apart = go (text_cmp a b) refl le where
 le_itself : (a : List ℕ) → is_le (text_cmp a a) ≡ true
 le_itself a = ap is_le (tied_itself nat_list_cmp_total a)
 
-not_le : (a b : List ℕ) → is_le (text_cmp a b) ≡ false → text_cmp b a ≡ Less
+pub not_le : (a b : List ℕ) → is_le (text_cmp a b) ≡ false → text_cmp b a ≡ Less
 not_le a b h = go (text_cmp a b) refl h where
   go : (o : Ordering) → text_cmp a b ≡ o → is_le o ≡ false → text_cmp b a ≡ Less
   go Less e h = absurd (let x = h in cc)
@@ -65,7 +65,7 @@ le_less a b c p q = go (text_cmp a b) refl p where
   go Equal e p = subst (λ x. text_cmp x c ≡ Less) (sym (text_equal a b e)) q
   go Greater e p = absurd (let x = p in cc)
 
-le_trans : (a b c : List ℕ) → is_le (text_cmp a b) ≡ true → is_le (text_cmp b c) ≡ true → is_le (text_cmp a c) ≡ true
+pub le_trans : (a b c : List ℕ) → is_le (text_cmp a b) ≡ true → is_le (text_cmp b c) ≡ true → is_le (text_cmp a c) ≡ true
 le_trans a b c p q = go (text_cmp b c) refl q where
   go : (o : Ordering) → text_cmp b c ≡ o → is_le o ≡ true → is_le (text_cmp a c) ≡ true
   go Less e q = ap is_le (le_less a b c p e)

@@ -1,5 +1,6 @@
 -- The migrator: what it asks in each state, where a reply leads, and what it keeps whatever the stores reply.
-use Rattle.std.specs.Prelude.{◌≡◌, ℕ, ◌≤◌, ◌==◌, Bool, List, [], ◌∷◌, length, Option, Some, None, Result, Ok, Err, if◌then◌else◌}
+use Rattle.std.specs.Prelude.{◌≡◌, ℕ, ◌≤◌, ◌==◌, Bool, true, List, [], ◌∷◌, length, Option, Some, None, Result, Ok, Err, if◌then◌else◌}
+use Rattle.std.specs.List.{AllByRecursion}
 use Rattle.mt_model.specs.declared.text.NoMemory.{NoMemory}
 use Rattle.mt_model.specs.declared.tag.Tag.{Tag}
 use Rattle.mt_chain.specs.declared.row.Put.{Put}
@@ -16,7 +17,7 @@ use Rattle.mt_chain.specs.declared.ask.Ask.TheVariants as ask
 use Rattle.mt_chain.specs.declared.ask.StoreAsk.{StoreAsk}
 use Rattle.mt_chain.specs.declared.ask.StoreReply.{StoreReply}
 use Rattle.mt_chain.specs.declared.ask.StoreReply.TheVariants as reply
-use Rattle.mt_chain.specs.Rows.{row_in}
+use Rattle.mt_chain.specs.Rows.{row_in, is_from}
 use Rattle.mt_chain.specs.Puts.{is_same_tag}
 use Rattle.mt_chain.specs.Effect.{any_tag}
 use Rattle.mt_meta.specs.declared.marker.Phase.{Phase}
@@ -253,13 +254,19 @@ Absorbs state r (Err none) to = TakesMemory r × (to ≡ state)
 
 -- ---- what it keeps, whatever the stores reply
 
--- no more rows than were asked for
-abbrev pub AreFew : List StoredRow → Type 0
-AreFew rows = length rows ≤ 50
+-- no more rows than were asked for, past what is done
+abbrev pub AreNext : Option (List ℕ) → List StoredRow → Type 0
+AreNext done rows = (length rows ≤ 50) × AllByRecursion (λ r. is_from (past done) r.rk ≡ true) rows
+
+-- the phase that the marker among rows says
+abbrev pub phase_said : Option StoredRow → Option Phase
+phase_said None = None
+phase_said (Some m) = old_phase_of m.tag.store m.props
 
 abbrev pub MigratorFits : State → Type 0
-MigratorFits (at.ReadNew copying old) = AreFew old.rows
-MigratorFits (at.Write copying upto rows entries) = AreFew rows × AreFew entries
+MigratorFits (at.Prepare part rows) = phase_said (row_in rows marker_key) ≡ Some UseOld
+MigratorFits (at.ReadNew copying old) = AreNext copying.done old.rows
+MigratorFits (at.Write copying upto rows entries) = AreNext copying.done rows × AreNext copying.done entries
 MigratorFits state = Unit {0}
 
 -- it has not come to its end

@@ -4,7 +4,7 @@ ghost use Rattle.mt_chain.specs.Asks.{CanAsk};
 ghost use Rattle.mt_chain.specs.Puts.{row_key};
 ghost use Rattle.mt_meta.specs.Markers.{marker_key, marker_props, old_kind, new_kind};
 ghost use Rattle.mt_migrate.specs.Chunks.{end_of};
-ghost use Rattle.mt_migrate.specs.Moves.{reads_marker, past, next_rows, reads_rows, writes, replaces, marker_tag, Asks, AreFew};
+ghost use Rattle.mt_migrate.specs.Moves.{reads_marker, past, next_rows, reads_rows, writes, replaces, marker_tag, Asks, AreNext};
 ghost use Rattle.mt_migrate.specs.declared.state.State.TheVariants as at;
 
 use crate::chunk::{copy_end, end_of};
@@ -188,7 +188,7 @@ pub(crate) fn write_copies(
     rows: &StoredRows,
     entries: &StoredRows,
 ) -> Result<StoreAsk, NoMemory>
-    requires { AreFew rows.now × AreFew entries.now }
+    requires { AreNext copying.now.done rows.now × AreNext copying.now.done entries.now }
     ensures asks { IfOk result (Asks (at.Write copying.now upto.now rows.now entries.now)) }
     ensures can { IfOk result (λ a. CanAsk a.ask) }
 {

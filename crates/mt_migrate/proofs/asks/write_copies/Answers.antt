@@ -9,4 +9,4 @@ returns-clause-can c =
     let made = c.in_ok-puts.ensures in
     let few = c.requires in
     subst CanApply (sym (c.of-2.ensures ∙ made.1 ∙ ap (λ k. put.Check k c.args.copying.now.epoch ∷ made.0) c.in_ok-rk.ensures))
-    (can_write c.args.upto.now c.args.rows.now c.args.entries.now c.args.copying.now.epoch made.0 made.2 (let n = made.3 in let a = few.0 in let b = few.1 in omega (arith, n, a, b)))
+    (can_write c.args.upto.now c.args.rows.now c.args.entries.now c.args.copying.now.epoch made.0 made.2 (let n = made.3 in let a = few.0.0 in let b = few.1.0 in omega (arith, n, a, b)))
