@@ -5,3 +5,6 @@ pub mod MarkerChanges
 pub mod CopyChanges
 pub mod ReadFacts
 pub mod ChunkLaws
+pub mod Knowing
+pub mod MoverLaw
+pub mod Theorems
