@@ -80,8 +80,11 @@ entry_seen ps own h some = go h.0 h.1 h.2 where
 
 -- old's row has one
 pub old_seen : (store : ℕ) (ps : List Prop) (own : Tag) → IsOldRow store ps → (t : Tag) × (seen_tag ps own ≡ Some t)
-old_seen store ps own (inl client) = (own, ap (λ (k : Option (List ℕ)). seen_in k (kept_tag (mark_of ps)) own)
-    (ap text_of (ap (λ (qs : List Prop). value_at qs (hidden_name hidden.Kind)) (sym client) ∙ visible_value hidden.Kind ps)))
+old_seen store ps own (inl client) = (
+  own,
+  ap (λ (k : Option (List ℕ)). seen_in k (kept_tag (mark_of ps)) own)
+      (ap text_of (ap (λ (qs : List Prop). value_at qs (hidden_name hidden.Kind)) (sym client) ∙ visible_value hidden.Kind ps)),
+)
 old_seen store ps own (inr h) = entry_seen ps own h.1 h.2
 
 -- it is the row's own, or the one that a copy kept

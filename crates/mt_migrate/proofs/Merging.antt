@@ -164,10 +164,13 @@ past_rows m (r ∷ rows) rising low = go (bytes_eq r.rk m) refl where
   })
   go false e = (let above : text_cmp m r.rk ≡ Less = le_apart m r.rk (low r.rk (head_there r rows)) e in record {
     rising = rising;
-    kept = λ k h. (h, elim (or_cases (bytes_eq k r.rk) (has k rows) h) as (λ _. text_cmp m k ≡ Less) [
-      | inl here ↦ subst (λ x. text_cmp m x ≡ Less) (sym (text_true k r.rk here)) above
-      | inr there ↦ nat_list_cmp_total.trans m r.rk k above (below_has r.rk k rows rising.0 there)
-    ]);
+    kept = λ k h. (
+      h,
+      elim (or_cases (bytes_eq k r.rk) (has k rows) h) as (λ _. text_cmp m k ≡ Less) [
+        | inl here ↦ subst (λ x. text_cmp m x ≡ Less) (sym (text_true k r.rk here)) above
+        | inr there ↦ nat_list_cmp_total.trans m r.rk k above (below_has r.rk k rows rising.0 there)
+      ],
+    );
     gone = λ k h g. absurd (let x : true ≡ false = sym h ∙ g in cc);
     fewer = omega arith;
     less = λ h. elim (or_cases (bytes_eq m r.rk) (has m rows) h) as (λ _. length (r ∷ rows) + 1 ≤ length (r ∷ rows)) [

@@ -191,8 +191,13 @@ pass_law p retired part Second epoch done old r phase s know is reads kept rows 
     let c = copying_of part Second epoch done in
     step_same p retired (at.ReadOld c) (at.ReadNew c old) s
     (know.0, (record { marked = know.1.0.marked; turned = know.1.0.turned; rows = λ f rk other h. rows rk other h.0 h.1 }, hold_more p retired (kept_facts part.pk old.rows) (walk_facts part) kept know.1.1))
-    (λ f a. (a.0, (plain_right f (rows_known c Second (end_of old) old.rows) tt,
-        plain_apart f (kept_facts part.pk old.rows ++ walk_facts part) (plain_more (kept_facts part.pk old.rows) (walk_facts part) (kept_plain part.pk old.rows) (behind_plain part.walk (start.From part.pk))))))
+    (λ f a. (
+      a.0,
+      (
+        plain_right f (rows_known c Second (end_of old) old.rows) tt,
+        plain_apart f (kept_facts part.pk old.rows ++ walk_facts part) (plain_more (kept_facts part.pk old.rows) (walk_facts part) (kept_plain part.pk old.rows) (behind_plain part.walk (start.From part.pk))),
+      ),
+    ))
 pass_law p retired part (First was) epoch done old r PreferNew s know is reads kept rows =
     let c = copying_of part (First was) epoch done in
     step_same p retired (at.ReadOld c) (pass_begun part Second epoch) s
@@ -203,8 +208,13 @@ pass_law p retired part (First was) epoch done old r PreferOld s know is reads k
     let c' = copying_of part (First r.tag) epoch done in
     step_same p retired (at.ReadOld c) (at.ReadNew c' old) s
     (know.0, (known_as p.old_number p.old part.pk marker_key r (marker_props (old_kind PreferOld)) s.tags.0 is (prefer_old_props p part.pk r s is reads), hold_more p retired (kept_facts part.pk old.rows) (walk_facts part) kept know.1.1))
-    (λ f a. (a.0, (plain_right f (rows_known c' (First r.tag) (end_of old) old.rows) tt,
-        plain_apart f (kept_facts part.pk old.rows ++ walk_facts part) (plain_more (kept_facts part.pk old.rows) (walk_facts part) (kept_plain part.pk old.rows) (behind_plain part.walk (start.From part.pk))))))
+    (λ f a. (
+      a.0,
+      (
+        plain_right f (rows_known c' (First r.tag) (end_of old) old.rows) tt,
+        plain_apart f (kept_facts part.pk old.rows ++ walk_facts part) (plain_more (kept_facts part.pk old.rows) (walk_facts part) (kept_plain part.pk old.rows) (behind_plain part.walk (start.From part.pk))),
+      ),
+    ))
 -- old cannot be at `use-old` where new has a marker
 pass_law p retired part (First was) epoch done old r UseOld s know is reads kept rows =
     let y = says p s part.pk in
@@ -327,11 +337,20 @@ compare_law p retired part pass epoch done old new m s know is e entries reads =
 
   go : (b : Bool) → is_wanting (chunk_end old new) old.rows new.rows ≡ b
       → MoverStep (at.ReadNew (copying_of part pass epoch done) old) (cond b (at.Write (copying_of part pass epoch done) (chunk_end old new) old.rows new.rows) (chunk_done (copying_of part pass epoch done) (chunk_end old new))) retired p p
-  go true wants = step_same p retired (at.ReadNew (copying_of part pass epoch done) old) (at.Write (copying_of part pass epoch done) (chunk_end old new) old.rows new.rows) s
-      (epoch_now, (know.0, (rows_less p retired (copying_of part pass epoch done) pass (end_of old) (chunk_end old new) old.rows sub know.1.0,
-          hold_more p retired (kept_facts part.pk old.rows) (row_facts New part.pk new.rows ++ walk_facts part) kept (hold_more p retired (row_facts New part.pk new.rows) (walk_facts part) entries walk))))
-      (λ f a. (apart_known f (copying_of part pass epoch done) pass keys.None (keys.Within Start (chunk_end old new) (waiting (chunk_end old new) old.rows new.rows)) (known_apart f (copying_of part pass epoch done) pass (done_keys done) keys.None a.0),
-          (a.0, write_plain f part pass epoch done (chunk_end old new) old.rows new.rows)))
+  go true wants = step_same p retired (at.ReadNew (copying_of part pass epoch done) old) (at.Write (copying_of part pass epoch done) (chunk_end old new) old.rows new.rows) s (
+    epoch_now,
+    (
+      know.0,
+      (
+        rows_less p retired (copying_of part pass epoch done) pass (end_of old) (chunk_end old new) old.rows sub know.1.0,
+        hold_more p retired (kept_facts part.pk old.rows) (row_facts New part.pk new.rows ++ walk_facts part) kept (hold_more p retired (row_facts New part.pk new.rows) (walk_facts part) entries walk),
+      ),
+    ),
+  )
+      (λ f a. (
+        apart_known f (copying_of part pass epoch done) pass keys.None (keys.Within Start (chunk_end old new) (waiting (chunk_end old new) old.rows new.rows)) (known_apart f (copying_of part pass epoch done) pass (done_keys done) keys.None a.0),
+        (a.0, write_plain f part pass epoch done (chunk_end old new) old.rows new.rows),
+      ))
   go false none = step_same p retired (at.ReadNew (copying_of part pass epoch done) old) (chunk_done (copying_of part pass epoch done) (chunk_end old new)) s
       (done_knows p retired part pass epoch done (chunk_end old new) (end_of old) old.rows
       (more_known p retired (copying_of part pass epoch done) pass (keys.Within Start (chunk_end old new) (waiting (chunk_end old new) old.rows new.rows)) (keys.Within Start (chunk_end old new) [])
@@ -359,7 +378,7 @@ read_new_law p retired part pass epoch done old found s rise know is =
     (new_read_law p retired part pass epoch done old (reading_of found) (new_at p part.pk marker_key) s know refl
     (entries_known p retired part.pk found.rows s (subst (AllByRecursion (IsRowOf p.new.rows part.pk)) (sym is.rows) (all_taken (IsRowOf p.new.rows part.pk) 50 _ (members p.new.rows part.pk (next_rows done (end_of old)) rise))))
     (λ rk other from within. reading_is p.new.rows part.pk done (end_of old) found rk rise is.rows is.more from
-        (lesser_left (end_of old) (end_of (reading_of found)) rk within) (lesser_right (end_of old) (end_of (reading_of found)) rk within)))
+    (lesser_left (end_of old) (end_of (reading_of found)) rk within) (lesser_right (end_of old) (end_of (reading_of found)) rk within)))
 
 -- ---- steps that change a store
 
@@ -388,10 +407,13 @@ prepare_law p retired part rows (Some m) c tags s know at_marker fits done =
     let tag_is : first_tag tags ≡ next_tag p.old_number p.old.counter = ap first_tag done.answer in
     subst (λ x. MoverStep (at.Prepare part rows) (at.Claim part (First (first_tag tags))) retired p (with_old p x)) (sym done.contents)
     (subst (λ t. MoverStep (at.Prepare part rows) (at.Claim part (First t)) retired p q) (sym tag_is)
-    (changed p q retired (at.Prepare part rows) (at.Claim part (First (next_tag p.old_number p.old.counter))) part.pk h
-    (ap (λ x. is_begun (old_state x) (new_state_at q part.pk)) there ∙ ap (λ x. is_begun (old_says x) (new_state_at q part.pk)) (old_read p.old_number PreferOld),
-      (row_known p.old_number q.old part.pk marker_key _ h.step.sound.tags.0 there,
-      plain_kept own p q retired s h.step.sound h.step.grows (walk_facts part) (behind_plain part.walk (start.From part.pk)) (hold_rest p retired (row_facts Old part.pk rows) (walk_facts part) know)))
+    (changed p q retired (at.Prepare part rows) (at.Claim part (First (next_tag p.old_number p.old.counter))) part.pk h (
+      ap (λ x. is_begun (old_state x) (new_state_at q part.pk)) there ∙ ap (λ x. is_begun (old_says x) (new_state_at q part.pk)) (old_read p.old_number PreferOld),
+      (
+        row_known p.old_number q.old part.pk marker_key _ h.step.sound.tags.0 there,
+        plain_kept own p q retired s h.step.sound h.step.grows (walk_facts part) (behind_plain part.walk (start.From part.pk)) (hold_rest p retired (row_facts Old part.pk rows) (walk_facts part) know),
+      ),
+    )
     (λ f x a. plain_apart f (state_facts (at.Claim part (First (next_tag p.old_number p.old.counter)))) (tt, (tt, behind_plain part.walk (start.From part.pk))))))
 
 switch_law : (p : Pair) (retired : Bool) (part : Part) (marker epoch : Tag) (c : Contents) (tags : List Tag) → IsSound p → AllHold p retired (state_facts (at.Switch part marker epoch))
@@ -402,10 +424,13 @@ switch_law p retired part marker epoch c tags s know done =
     let q = with_old p (contents_after p.old_number p.old part.pk (replaces (old_kind PreferNew) marker ∷ [])) in
     let there : old_at q part.pk marker_key ≡ Some (record { props = marker_props (old_kind PreferNew); tag = next_tag p.old_number p.old.counter }) = all_puts p.old_number p.old.counter part.pk (replaces (old_kind PreferNew) marker ∷ []) p.old.rows marker_key in
     subst (λ x. MoverStep (at.Switch part marker epoch) (pass_begun part Second epoch) retired p (with_old p x)) (sym done.contents)
-    (changed p q retired (at.Switch part marker epoch) (pass_begun part Second epoch) part.pk h
-    (epoch_alone own p q part.pk epoch keys.None s h.step.sound h.step.grows know.0,
-      (turned_known q part.pk h.step.sound (ap (λ x. is_prefer_new (old_state x)) there ∙ ap (λ x. is_prefer_new (old_says x)) (old_read p.old_number PreferNew)),
-      plain_kept own p q retired s h.step.sound h.step.grows (walk_facts part) (behind_plain part.walk (start.From part.pk)) know.1.1))
+    (changed p q retired (at.Switch part marker epoch) (pass_begun part Second epoch) part.pk h (
+      epoch_alone own p q part.pk epoch keys.None s h.step.sound h.step.grows know.0,
+      (
+        turned_known q part.pk h.step.sound (ap (λ x. is_prefer_new (old_state x)) there ∙ ap (λ x. is_prefer_new (old_says x)) (old_read p.old_number PreferNew)),
+        plain_kept own p q retired s h.step.sound h.step.grows (walk_facts part) (behind_plain part.walk (start.From part.pk)) know.1.1,
+      ),
+    )
     (λ f x a. (a.0, (plain_right f (old_known part.pk Second) tt, plain_apart f (walk_facts part) (behind_plain part.walk (start.From part.pk))))))
 
 begun_law : (p q : Pair) (retired : Bool) (state : State) (part : Part) (pass : Pass) → IsSound p → Begins (state_facts state) p q part.pk → AllHold p retired (old_known part.pk pass ∷ walk_facts part)
@@ -413,11 +438,14 @@ begun_law : (p q : Pair) (retired : Bool) (state : State) (part : Part) (pass : 
 begun_law p q retired state part pass s h know =
     let n = next_tag p.new_number p.new.counter in
     let c = copying_of part pass n None in
-    changed p q retired state (pass_begun part pass n) part.pk h.shows
-    (as_known q retired c pass keys.None (λ e. h.epoch) h.epoch,
-      plain_kept (state_facts state) p q retired s h.shows.step.sound h.shows.step.grows (old_known part.pk pass ∷ walk_facts part) (old_plain part.pk pass, behind_plain part.walk (start.From part.pk)) know)
-    (λ f x a. (apart_known f c pass keys.None keys.None (fresh_apart p retired f part.pk n keys.None (omega arith) x),
-        (plain_right f (old_known part.pk pass) (old_plain part.pk pass), plain_apart f (walk_facts part) (behind_plain part.walk (start.From part.pk)))))
+    changed p q retired state (pass_begun part pass n) part.pk h.shows (
+      as_known q retired c pass keys.None (λ e. h.epoch) h.epoch,
+      plain_kept (state_facts state) p q retired s h.shows.step.sound h.shows.step.grows (old_known part.pk pass ∷ walk_facts part) (old_plain part.pk pass, behind_plain part.walk (start.From part.pk)) know,
+    )
+    (λ f x a. (
+      apart_known f c pass keys.None keys.None (fresh_apart p retired f part.pk n keys.None (omega arith) x),
+      (plain_right f (old_known part.pk pass) (old_plain part.pk pass), plain_apart f (walk_facts part) (behind_plain part.walk (start.From part.pk))),
+    ))
 
 begin_law : (p : Pair) (retired : Bool) (part : Part) (pass : Pass) (c : Contents) (tags : List Tag) → IsSound p → AllHold p retired (state_facts (at.Begin part pass))
     → WasDone p.new_number p.new part.pk (put.Insert marker_key (marker_props (new_kind Filling)) ∷ []) c tags → MoverStep (at.Begin part pass) (pass_begun part pass (first_tag tags)) retired p (with_new p c)

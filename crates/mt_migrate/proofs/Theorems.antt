@@ -3,6 +3,7 @@ use Rattle.std.proofs.Common.{◌≡◌, ◌≢◌, ℕ, ◌<◌, Bool, true, fa
 use Rattle.std.specs.Prelude.{Ok, is_some}
 use Rattle.mt_model.specs.declared.tag.Tag.{Tag}
 use Rattle.mt_chain.specs.declared.row.Stored.{Stored}
+use Rattle.mt_chain.specs.declared.row.Put.TheVariants as put
 use Rattle.mt_chain.specs.declared.row.StoredRow.{StoredRow}
 use Rattle.mt_chain.specs.declared.ask.StoreAsk.{StoreAsk}
 use Rattle.mt_chain.specs.declared.ask.StoreReply.{StoreReply}
@@ -43,8 +44,9 @@ pub former_epoch_changes_nothing : (copying : Copying) (upto : Option (List ℕ)
     → Asks (at.Write copying upto rows entries) a → PairMeans a r p q → new_at p copying.part.pk marker_key ≡ Some m → m.tag ≢ copying.epoch → q ≡ p
 former_epoch_changes_nothing copying upto rows entries a (reply.Applied tags) p q m asks means there other =
     let k = subst (λ x. PairMeans x (reply.Applied tags) p q) asks.2 means in
-    let d = was_done p.new_number p.new copying.part.pk _ q.new tags k.0.0 in
-    let held = tagged (new_at p copying.part.pk marker_key) copying.epoch (each_held 0 p.new.rows copying.part.pk _ d.met).0 in
+    let puts = put.Check marker_key copying.epoch ∷ asks.0 in
+    let d = was_done p.new_number p.new copying.part.pk puts q.new tags k.0.0 in
+    let held = tagged (new_at p copying.part.pk marker_key) copying.epoch (each_held 0 p.new.rows copying.part.pk puts d.met).0 in
     absurd (other (same m held.0 (sym there ∙ held.1) ∙ held.2)) where
       same : (x y : Stored) → Some x ≡ Some y → x.tag ≡ y.tag
       same x y e = ap (λ (o : Option Stored). elim o as (λ _. Tag) [ None ↦ x.tag | Some z ↦ z.tag ]) e

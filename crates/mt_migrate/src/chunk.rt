@@ -39,11 +39,7 @@ fn lesser<'a>(a: Option<&'a Text>, b: Option<&'a Text>) -> Option<&'a Text>
     match (a, b) {
         (None, b) => b,
         (Some(a), None) => Some(a),
-        (Some(a), Some(b)) => if a <= b {
-            Some(a)
-        } else {
-            Some(b)
-        },
+        (Some(a), Some(b)) => if a <= b { Some(a) } else { Some(b) },
     }
 }
 

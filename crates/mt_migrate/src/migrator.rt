@@ -46,11 +46,7 @@ impl Model for Migrator {
 }
 
 /// Where the chunk ends, at a reply that shows it. The one error is want of memory.
-fn end_read(
-    alloc: Global,
-    state: &State,
-    reply: &StoreReply,
-) -> Result<Option<Text>, NoMemory>
+fn end_read(alloc: Global, state: &State, reply: &StoreReply) -> Result<Option<Text>, NoMemory>
     ensures end { IfOk result (λ upto. upto ≡ end_read state.now reply.now) }
     ensures memory { IfErr result (λ none. TakesMemory reply.now) }
 {
@@ -86,13 +82,21 @@ fn after_read(alloc: Global, state: State, found: Found, upto: Option<Text>) -> 
     ensures { result ≡ after_read state found }
 {
     let Found {
-        named, rows, more, ..
+        named,
+        rows,
+        more,
+        ..
     } = found;
     match state {
         State::Look { part } => moves::looked(alloc, part, named),
         State::Claim { part, pass } => moves::claimed(alloc, part, pass, named.get(MARKER_KEY)),
         State::ReadOld { copying } => {
-            moves::read_old(alloc, copying, Reading { rows, more }, named.get(MARKER_KEY))
+            moves::read_old(
+                alloc,
+                copying,
+                Reading { rows, more },
+                named.get(MARKER_KEY),
+            )
         }
         State::ReadNew { copying, old } => {
             moves::read_new(copying, upto, old.rows, rows, named.get(MARKER_KEY))
@@ -195,12 +199,18 @@ impl Migrator {
             }),
             State::Look { part } => read_marker(alloc, Side::Old, &part.pk),
             State::Prepare { part, rows } => turn_old(
-                alloc, &part.pk, Phase::PreferOld, marker_tag(rows),
+                alloc,
+                &part.pk,
+                Phase::PreferOld,
+                marker_tag(rows),
             ),
             State::Claim { part, .. } => read_marker(alloc, Side::New, &part.pk),
             State::Begin { part, .. } => bear_new(alloc, &part.pk),
             State::Takeover { part, filling, .. } => turn_new(
-                alloc, &part.pk, NewPhase::Filling, *filling,
+                alloc,
+                &part.pk,
+                NewPhase::Filling,
+                *filling,
             ),
             State::ReadOld { copying } => read_old(alloc, copying),
             State::ReadNew { copying, old } => read_new(alloc, copying, old),
@@ -211,7 +221,10 @@ impl Migrator {
                 entries,
             } => write_copies(alloc, copying, upto, rows, entries),
             State::Switch { part, marker, .. } => turn_old(
-                alloc, &part.pk, Phase::PreferNew, *marker,
+                alloc,
+                &part.pk,
+                Phase::PreferNew,
+                *marker,
             ),
             State::Finish { part, epoch } => turn_new(alloc, &part.pk, NewPhase::UseNew, *epoch),
             State::Done => unreachable!(),

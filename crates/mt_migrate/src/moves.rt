@@ -183,7 +183,10 @@ fn pass_done(copying: Copying) -> State
     ensures { result ≡ pass_done copying copying.pass }
 {
     let Copying {
-        part, pass, epoch, ..
+        part,
+        pass,
+        epoch,
+        ..
     } = copying;
     match pass {
         Pass::First { marker } => State::Switch {
@@ -210,12 +213,7 @@ pub(crate) fn chunk_done(copying: Copying, upto: Option<Text>) -> State
     }
 }
 
-fn compared(
-    copying: Copying,
-    upto: Option<Text>,
-    rows: StoredRows,
-    entries: StoredRows,
-) -> State
+fn compared(copying: Copying, upto: Option<Text>, rows: StoredRows, entries: StoredRows) -> State
     ensures { result ≡ compared copying upto rows entries }
 {
     if is_wanting(&upto, &rows, &entries) {

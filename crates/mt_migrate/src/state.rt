@@ -55,31 +55,54 @@ pub struct Reading {
 #[derive(Drop)]
 pub enum State {
     /// It asks for old's next partition.
-    Walk { walk: Walk, from: PkFrom },
+    Walk {
+        walk: Walk,
+        from: PkFrom,
+    },
 
     /// It seals old.
     SealOld,
 
     /// It reads old's marker.
-    Look { part: Part },
+    Look {
+        part: Part,
+    },
 
     /// It turns old's marker to `prefer-old`; the marker is among the rows that were read.
-    Prepare { part: Part, rows: StoredRows },
+    Prepare {
+        part: Part,
+        rows: StoredRows,
+    },
 
     /// It reads new's marker.
-    Claim { part: Part, pass: Pass },
+    Claim {
+        part: Part,
+        pass: Pass,
+    },
 
     /// It makes new's marker.
-    Begin { part: Part, pass: Pass },
+    Begin {
+        part: Part,
+        pass: Pass,
+    },
 
     /// It takes over new's marker, which has this tag.
-    Takeover { part: Part, pass: Pass, filling: Tag },
+    Takeover {
+        part: Part,
+        pass: Pass,
+        filling: Tag,
+    },
 
     /// It reads the next rows of old.
-    ReadOld { copying: Copying },
+    ReadOld {
+        copying: Copying,
+    },
 
     /// It reads new's entries of the range that it read in old.
-    ReadNew { copying: Copying, old: Reading },
+    ReadNew {
+        copying: Copying,
+        old: Reading,
+    },
 
     /// It writes the copies of a chunk, which ends at this row key.
     Write {
@@ -90,10 +113,17 @@ pub enum State {
     },
 
     /// It turns old's marker to `prefer-new`.
-    Switch { part: Part, marker: Tag, epoch: Tag },
+    Switch {
+        part: Part,
+        marker: Tag,
+        epoch: Tag,
+    },
 
     /// It turns new's marker to `use-new`.
-    Finish { part: Part, epoch: Tag },
+    Finish {
+        part: Part,
+        epoch: Tag,
+    },
 
     /// Old is sealed, and each of its partitions is in new alone.
     Done,

@@ -179,6 +179,9 @@ fn stops_a_migrator_whose_epoch_is_over(rt: HostRuntime) -> Result<(), Fail> {
     assert!(rt; taken.as_str() == "1.2 ", "{taken}");
     let (_, late) = run(alloc, &mut first, &mut stores, 1)?;
     assert!(rt; late.as_str() == "unmet at 0 ", "{late}");
-    assert!(rt; count_rows(alloc, &mut stores.new)? == 1, "new has more than its marker");
+    assert!(rt;
+        count_rows(alloc, &mut stores.new)? == 1,
+        "new has more than its marker"
+    );
     Ok(())
 }
