@@ -1,0 +1,10 @@
+pub mod ReadLaws
+pub mod Merging
+pub mod FitLaws
+pub mod MarkerChanges
+pub mod CopyChanges
+pub mod ReadFacts
+pub mod ChunkLaws
+pub mod Knowing
+pub mod MoverLaw
+pub mod Theorems

@@ -1,0 +1,4 @@
+pub mod Chunks
+pub mod Moves
+pub mod Known
+pub mod MoverSteps
