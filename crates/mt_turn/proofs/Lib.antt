@@ -1,0 +1,4 @@
+mod WindowLaws
+mod Seats
+mod TurnLaws
+mod MeetLaws
