@@ -65,6 +65,7 @@ module _ {W E B X F : Type 0} (window : W → Window E B) (base_after : B → E 
     order = k.order;
     now = k.now;
     part = k.part;
+    few = k.few;
     fixed_is = k.fixed_is;
     words = e ∙ k.words;
     bit = k.bit;
@@ -186,6 +187,7 @@ module _ {W E B X F : Type 0} (window : W → Window E B) (base_after : B → E 
     order = k.order;
     now = k.now;
     part = k.part;
+    few = k.few;
     fixed_is = k.fixed_is;
     words = k.words;
     bit = k.bit;
@@ -231,6 +233,7 @@ module _ {W E B X F : Type 0} (window : W → Window E B) (base_after : B → E 
         order = k.order;
         now = k.now;
         part = k.part;
+        few = k.few;
         fixed_is = k.fixed_is;
         words = k.words;
         bit = k.bit;
@@ -298,6 +301,7 @@ module _ {W E B X F : Type 0} (window : W → Window E B) (base_after : B → E 
       let this : value ≡ Some k.value = some-injective value _ (sym has ∙ f.4 0 (Some k.value) (ap (λ l. get_elem? l 0) (k.home free))) in
       subst (λ o. IfSome o (Finds window base_after fixed caller_of holds tells v)) (sym this) record {
         seen = finds_window window base_after fixed caller_of holds tells apart about s k v x.0 num x.1 q.seen;
+        few = k.few;
         fixed_is = q.fixed_is num ∙ ap (λ (x : X). Some x) (sym k.fixed_is);
         facts = q.facts;
         told = q.told;

@@ -1,5 +1,5 @@
 -- The start of a turnstile, a claim of the turn, and the turn given back keep the rule.
-use Rattle.std.proofs.Common.{◌≡◌, ◌≢◌, ℕ, zero, suc, ◌+◌, ◌-◌, ◌*◌, ◌%◌, ◌<◌, ◌≤◌, eqb, Bool, true, false, List, [], ◌∷◌, ◌++◌, ◌⊎◌, length, get_or, set, sym, refl, ap, ◌∙◌, subst, ⊎_elim, inl, inr, arith, Option, Some, None, IfSome, All, length-set}
+use Rattle.std.proofs.Common.{◌≡◌, ◌≢◌, ℕ, zero, suc, ◌+◌, ◌-◌, ◌*◌, ◌^◌, ◌%◌, ◌<◌, ◌≤◌, eqb, Bool, true, false, List, [], ◌∷◌, ◌++◌, ◌⊎◌, length, get_or, set, sym, refl, ap, ◌∙◌, subst, ⊎_elim, inl, inr, arith, Option, Some, None, IfSome, All, length-set}
 use Rattle.std.specs.List.{last_or, Contains}
 use Rattle.std.specs.Option.{is_some}
 use Rattle.std.proofs.lemmas.List.{append-nil}
@@ -43,8 +43,8 @@ module _ {W E B X F : Type 0} (window : W → Window E B) (base_after : B → E 
 
   -- ---- the start
 
-  pub opens : (word : ℕ) (slots : List (Option W)) → word ≡ end_of (window about) → slots ≡ Some about ∷ [] → Rule (opening (2 * word ∷ []) slots (first_pass window fixed about))
-  opens word slots is one = subst (λ xs. Rule (opening (2 * word ∷ []) xs (first_pass window fixed about))) (sym one) record {
+  pub opens : (word : ℕ) (slots : List (Option W)) → end_of (window about) < 2 ^ 63 → word ≡ end_of (window about) → slots ≡ Some about ∷ [] → Rule (opening (2 * word ∷ []) slots (first_pass window fixed about))
+  opens word slots few is one = subst (λ xs. Rule (opening (2 * word ∷ []) xs (first_pass window fixed about))) (sym one) record {
     value = about;
     held = 0;
     holder = 0;
@@ -54,6 +54,7 @@ module _ {W E B X F : Type 0} (window : W → Window E B) (base_after : B → E 
     order = (tt, tt);
     now = refl;
     part = whole_part;
+    few = few;
     fixed_is = refl;
     words = ap (λ n. n ∷ []) (omega (arith, is));
     bit = omega arith;
@@ -178,6 +179,7 @@ module _ {W E B X F : Type 0} (window : W → Window E B) (base_after : B → E 
               order = k.order;
               now = k.now;
               part = k.part;
+              few = k.few;
               fixed_is = k.fixed_is;
               words = word_set s k (found + 1) _ total;
               bit = omega arith;
@@ -215,6 +217,7 @@ module _ {W E B X F : Type 0} (window : W → Window E B) (base_after : B → E 
                 refl,
                 record {
                   seen = finds_window s k m.0 x.0 num x.1 q.seen;
+                  few = k.few;
                   fixed_is = q.fixed_is num ∙ ap (λ (x : X). Some x) (sym k.fixed_is);
                   facts = q.facts;
                   told = q.told;
@@ -237,10 +240,10 @@ module _ {W E B X F : Type 0} (window : W → Window E B) (base_after : B → E 
   module _ (calls : W → ℕ) (kept_by : W → W → List F → List F → Type 0)
       (law : (w u : W) (before after : List F) (f : F) → kept_by w u before after → holds w f → All (apart f) before → holds u f × All (apart f) after) (both : (f g : F) → apart f g → apart g f) where
     leaves_at : (slots id word : ℕ) (v : View W E B X F) (u : W) (facts : List F) → v.turn ≡ true → v.fixed ≡ Some (fixed u) → OfTaken v (λ w. MayGive base_after caller_of v.caller (window w) (window u)) → OfTaken v (λ w. tells u → tells w)
-        → word ≡ end_of (window u) → All (holds u) facts → OfTaken v (λ w. kept_by w u v.facts facts)
+        → end_of (window u) < 2 ^ 63 → word ≡ end_of (window u) → All (holds u) facts → OfTaken v (λ w. kept_by w u v.facts facts)
         → Allows Rule slots id (v, (0, Some u) ∷ []) 0 (λ _. 2 * word) (λ _ n. (n ≡ (after_give window calls facts v u, [])) × InOrder base_after (after_give window calls facts v u).seen)
     unfolding was_still
-    leaves_at slots id word v u facts on same_data may ends is true_now owed s k wide at fits =
+    leaves_at slots id word v u facts on same_data may ends few is true_now owed s k wide at fits =
         let q = k.seats id v at in
         let held = q.turn on in
         let num = held.2 in
@@ -268,6 +271,7 @@ module _ {W E B X F : Type 0} (window : W → Window E B) (base_after : B → E 
             order = one_more base_after k.log (window u) k.order (λ z e. subst (Follows base_after (window u)) (same_item (sym k.now ∙ e)) late);
             now = last_snoc k.log (window u);
             part = part;
+            few = few;
             fixed_is = same_item (sym same_data ∙ q.fixed_is num);
             words = word_set s k (2 * word) _ total;
             bit = omega arith;
@@ -310,11 +314,11 @@ module _ {W E B X F : Type 0} (window : W → Window E B) (base_after : B → E 
         )
 
     pub leaves : (slots id word : ℕ) (m : M) (u : W) (facts : List F) → m.1 ≡ (0, Some u) ∷ [] → m.0.turn ≡ true → m.0.fixed ≡ Some (fixed u) → OfTaken m.0 (λ w. MayGive base_after caller_of m.0.caller (window w) (window u)) → OfTaken m.0 (λ w. tells u → tells w)
-        → word ≡ end_of (window u) → All (holds u) facts → OfTaken m.0 (λ w. kept_by w u m.0.facts facts)
+        → end_of (window u) < 2 ^ 63 → word ≡ end_of (window u) → All (holds u) facts → OfTaken m.0 (λ w. kept_by w u m.0.facts facts)
         → Allows Rule slots id m 0 (λ _. 2 * word) (λ _. left window base_after calls facts (step slots 0 (2 * word) 0 none) m (2 * word))
-    leaves slots id word m u facts is on same_data may ends count true_now owed = subst (λ (c : List (ℕ × Option W)). Allows Rule slots id (m.0, c) 0 (λ _. 2 * word) (λ _. left window base_after calls facts (step slots 0 (2 * word) 0 none) (m.0, c) (2 * word))) (sym is)
-        (λ s k wide at fits. let t = leaves_at slots id word m.0 u facts on same_data may ends count true_now owed s k wide at fits in
-            (t.0, t.1, t.2, t.3, λ w e. subst (λ (x : W). ◌≡◌ {A = M} (t.0, carried_after {S = Option W} ((0, Some u) ∷ []) t.1) (after_give window calls facts m.0 x, []) × InOrder base_after (after_give window calls facts m.0 x).seen) (same_value e) t.4))
+    leaves slots id word m u facts is on same_data may ends few count true_now owed = subst (λ (c : List (ℕ × Option W)). Allows Rule slots id (m.0, c) 0 (λ _. 2 * word) (λ _. left window base_after calls facts (step slots 0 (2 * word) 0 none) (m.0, c) (2 * word))) (sym is)
+        (λ s k wide at fits. let t = leaves_at slots id word m.0 u facts on same_data may ends few count true_now owed s k wide at fits in
+        (t.0, t.1, t.2, t.3, λ w e. subst (λ (x : W). ◌≡◌ {A = M} (t.0, carried_after {S = Option W} ((0, Some u) ∷ []) t.1) (after_give window calls facts m.0 x, []) × InOrder base_after (after_give window calls facts m.0 x).seen) (same_value e) t.4))
       where
         of_option : W → Option W → W
         of_option d None = d

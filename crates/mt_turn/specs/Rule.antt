@@ -1,6 +1,6 @@
 -- The rule of a turnstile, which each step of each pass keeps.
 -- Its word is twice the number of entries ever made, and 1 more while a seat holds the turn. Its one slot has the value while none does.
-use Rattle.std.specs.Prelude.{◌≡◌, ◌≢◌, ℕ, ◌+◌, ◌*◌, ◌<◌, ◌≤◌, Bool, true, false, List, [], ◌∷◌, ◌++◌, length, Option, Some, IfSome, All}
+use Rattle.std.specs.Prelude.{◌≡◌, ◌≢◌, ℕ, ◌+◌, ◌*◌, ◌^◌, ◌<◌, ◌≤◌, Bool, true, false, List, [], ◌∷◌, ◌++◌, length, Option, Some, IfSome, All}
 use Rattle.std.specs.List.{Contains}
 use mathlib.Core.Option.{none, some}
 use lib.ListN.{get_elem?}
@@ -60,6 +60,7 @@ module _ {W E B X F : Type 0} (window : W → Window E B) (base_after : B → E 
     pub order : InOrder base_after log
     pub now : last_of log ≡ Some (window value)
     pub part : IsPart base_after whole (window value) []
+    pub few : end_of (window value) < 2 ^ 63
     pub fixed_is : fixed value ≡ fixed about
     pub words : s.words ≡ (2 * end_of (window value) + held) ∷ []
     pub bit : held < 2

@@ -1,8 +1,8 @@
 -- What a pass finds of the value, and what it may give.
-use Rattle.std.specs.Prelude.{◌≡◌, ◌≢◌, ◌⊎◌, ℕ, ◌+◌, ◌≤◌, List, [], length, Option, Some, IfSome, All}
+use Rattle.std.specs.Prelude.{◌≡◌, ◌≢◌, ◌⊎◌, ℕ, ◌+◌, ◌^◌, ◌<◌, ◌≤◌, List, [], length, Option, Some, IfSome, All}
 use Rattle.mt_turn.specs.declared.view.Window.{Window}
 use Rattle.mt_turn.specs.declared.view.View.{View}
-use Rattle.mt_turn.specs.Windows.{last_of, FollowsBy, Follows}
+use Rattle.mt_turn.specs.Windows.{last_of, end_of, FollowsBy, Follows}
 
 -- so it is of the value that the pass took last
 abbrev pub OfTaken : {W E B X F : Type 0} → View W E B X F → (W → Type 0) → Type 0
@@ -44,6 +44,7 @@ module _ {W E B X F : Type 0} (window : W → Window E B) (base_after : B → E 
   -- what the value is to a pass that finds it
   pub record Finds (v : View W E B X F) (w : W) : Type 0 where
     pub seen : FindsWindow base_after caller_of v (window w)
+    pub few : end_of (window w) < 2 ^ 63
     pub fixed_is : v.fixed ≡ Some (fixed w)
     pub facts : All (holds w) v.facts
     pub told : tells w → IfSome v.last tells

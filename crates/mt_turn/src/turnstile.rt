@@ -80,6 +80,7 @@ impl<W: Journaled> Turnstile<W> {
         ensures own { OfOne pass.old pass.new }
         ensures view { known pass.new ≡ after_take W.window (known pass.old) result }
         ensures window { FindsWindow W.base_after W.caller_of (known pass.old) (W.window result) }
+        ensures few { end_of (W.window result) < 2 ^ 63 }
         ensures fixed { (known pass.old).fixed ≡ Some (W.fixed result) }
         ensures facts { All (W.holds result) (known pass.old).facts }
         ensures told { W.tells result → IfSome (known pass.old).last W.tells }

@@ -5,7 +5,7 @@ use Rattle.mt_turn.proofs.turnstile.Turnstile.give_knowing.Goals as goal
 
 pub store-requires : goal.store-requires
 store-requires g c = let j = g.W.Journaled in let l = g.met.W.Journaled in
-    (search rules, search rules, leaves j.window j.base_after j.fixed j.caller_of j.holds j.tells j.apart _ j.calls j.keeps l.kept l.apart_both _ _ _ _ c.args.value _ (search rules) (search rules) (search rules) (search rules) (search rules) c.made-word.ensures (search rules) (search rules))
+    (search rules, search rules, leaves j.window j.base_after j.fixed j.caller_of j.holds j.tells j.apart _ j.calls j.keeps l.kept l.apart_both _ _ _ _ c.args.value _ (search rules) (search rules) (search rules) (search rules) (search rules) (search rules) c.made-word.ensures (search rules) (search rules))
 
 pub invariant_of-pass-clause-begun : goal.invariant_of-pass-clause-begun
 invariant_of-pass-clause-begun g c =
