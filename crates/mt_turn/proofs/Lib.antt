@@ -1,4 +1,5 @@
-mod WindowLaws
+pub mod WindowLaws
 mod Seats
 mod TurnLaws
 mod MeetLaws
+pub mod Theorems

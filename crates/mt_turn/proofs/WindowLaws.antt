@@ -17,7 +17,7 @@ module _ {A : Type 0} where
       let heads : h ≡ h' = cc in
       let t = prefixes a x b y tails (omega arith) in (t.0, (λ i. sym heads i ∷ t.1 i), t.2)
 
-  nothing : (l : List A) → length l ≡ 0 → l ≡ []
+  pub nothing : (l : List A) → length l ≡ 0 → l ≡ []
   nothing [] e = refl
   nothing (x ∷ xs) e = absurd (omega arith)
 
