@@ -153,7 +153,7 @@ impl<W: Journaled> Turnstile<W> {
         _actor: &A,
     )
         requires own { IsOf pass.old self.now }
-        requires turn { (known pass.old).turn ≡ true }
+        requires held { (known pass.old).turn ≡ true }
         requires few { end_of (W.window value) < 2 ^ 63 }
         requires fixed { (known pass.old).fixed ≡ Some (W.fixed value) }
         requires window { OfTaken (known pass.old) (λ taken. MayGive W.base_after W.caller_of (known pass.old).caller (W.window taken) (W.window value)) }
