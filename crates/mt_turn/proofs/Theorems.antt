@@ -3,9 +3,9 @@ use Rattle.std.proofs.Common.{◌≡◌, ◌⊎◌, ℕ, ◌+◌, ◌<◌, ◌�
 use Rattle.std.proofs.lemmas.List.{append-nil}
 use Rattle.std.proofs.lemmas.List.Elements.{All-nil, All-cons}
 use Rattle.mt_turn.specs.declared.view.Window.{Window}
-use Rattle.mt_turn.specs.Windows.{last_of, end_of, replay, FollowsBy, Follows, InOrder}
+use Rattle.mt_turn.specs.Windows.{last_of, end_of, replay, Follows, HasSeen}
 use Rattle.mt_turn.specs.Turns.{MayGive, IsLater}
-use Rattle.mt_turn.proofs.WindowLaws.{nothing, same_item, follows_by_self, no_earlier}
+use Rattle.mt_turn.proofs.WindowLaws.{nothing, same_item, last_snoc, follows_by_self, no_earlier}
 
 -- ---- what a caller may give
 
@@ -54,9 +54,16 @@ module _ {E B : Type 0} (base_after : B → E → B) where
       let none : f.cut ≡ [] = nothing f.cut (omega arith) in
       (f.more, sym (f.by.entries ∙ ap (λ l. l ++ u.entries) none), f.by.base ∙ ap (replay base_after v.base) none)
 
-  -- who meets another sees a window that ends where that of either ends, or later
-  pub ends_no_earlier : (mine theirs : Option (Window E B)) (x m t : Window E B) → IsLater base_after mine theirs x → mine ≡ Some m → theirs ≡ Some t → (end_of m ≤ end_of x) × (end_of t ≤ end_of x)
-  ends_no_earlier mine theirs x m t l is told =
-      let a = l.follows_mine in
+  -- who meets another has seen as much as that one
+  pub has_seen_as_much : (mine theirs : List (Window E B)) (x : Window E B) (place : ℕ) → IsLater base_after (last_of mine) (last_of theirs) x → HasSeen theirs place → HasSeen (mine ++ x ∷ []) place
+  has_seen_as_much mine theirs x place l has =
       let b = l.follows_theirs in
-      ((no_earlier base_after x m (subst (Follows base_after x) (same_item (sym a.1 ∙ is)) a.2)).1, (no_earlier base_after x t (subst (Follows base_after x) (same_item (sym b.1 ∙ told)) b.2)).1)
+      let late = no_earlier base_after x has.now (subst (Follows base_after x) (same_item (sym b.1 ∙ has.is_last)) b.2) in
+      let ends = late.1 in
+      let reaches = has.reaches in
+      record { now = x; is_last = last_snoc mine x; reaches = omega arith }
+
+module _ {E B : Type 0} where
+  -- a pass that saw this window last
+  pub has_seen_last : (seen : List (Window E B)) (x : Window E B) (place : ℕ) → place ≤ end_of x → HasSeen (seen ++ x ∷ []) place
+  has_seen_last seen x place reaches = record { now = x; is_last = last_snoc seen x; reaches = reaches }

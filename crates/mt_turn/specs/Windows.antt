@@ -1,5 +1,5 @@
 -- Windows of one history, and which of them follow one another.
-use Rattle.std.specs.Prelude.{◌≡◌, ℕ, ◌+◌, List, [], ◌∷◌, ◌++◌, length, Option, Some, None, IfSome}
+use Rattle.std.specs.Prelude.{◌≡◌, ℕ, ◌+◌, ◌≤◌, List, [], ◌∷◌, ◌++◌, length, Option, Some, None, IfSome}
 use Rattle.std.specs.List.{fold, last_or}
 use Rattle.mt_turn.specs.declared.view.Window.{Window}
 
@@ -37,3 +37,9 @@ module _ {E B : Type 0} (base_after : B → E → B) where
   abbrev pub InOrder : List (Window E B) → Type 0
   InOrder [] = Unit {0}
   InOrder (w ∷ ws) = IfSome (first_of ws) (λ next. Follows next w) × InOrder ws
+
+-- the last of these windows ends at that place or later
+pub record HasSeen {E B : Type 0} (seen : List (Window E B)) (place : ℕ) : Type 0 where
+  pub now : Window E B
+  pub is_last : last_of seen ≡ Some now
+  pub reaches : place ≤ end_of now

@@ -2,6 +2,7 @@ mod book;
 
 ghost use Rattle.std.specs.Prelude.{◌≡◌, [], ◌∷◌, false, IfOk};
 ghost use Rattle.mt_turn.specs.Passes.{known, IsOf};
+ghost use Rattle.mt_turn.specs.Windows.{HasSeen};
 
 use crate::{PassOf, Turnstile};
 use book::{Book, Line, Reader};
@@ -28,12 +29,30 @@ fn write<R: Wait>(rt: &R, shared: &Turnstile<Book>, pass: &mut PassOf<Book>, num
     ensures own { IsOf pass.new shared.now }
     ensures free { (known pass.new).turn ≡ false }
     ensures knows { (known pass.new).facts ≡ result.least ∷ [] }
+    ensures seen { HasSeen (known pass.new).seen result.least }
 {
     let mut book = shared.take(rt, pass);
     book.write(pass.caller(), number);
     let reader = book.reader();
     shared.give(rt, pass, book, &reader);
     reader
+}
+
+/// After they met, the one has seen as many lines as the other.
+fn meet(
+    shared: &Turnstile<Book>,
+    pass: &mut PassOf<Book>,
+    other: &mut PassOf<Book>,
+    reader: &Reader,
+)
+    requires own { IsOf pass.old shared.now × IsOf other.old shared.now }
+    requires free { ((known pass.old).turn ≡ false) × ((known other.old).turn ≡ false) }
+    requires seen { HasSeen (known other.old).seen reader.now.least }
+    ensures own { IsOf pass.new shared.now × IsOf other.new shared.now }
+    ensures free { ((known pass.new).turn ≡ false) × ((known other.new).turn ≡ false) }
+    ensures seen { HasSeen (known pass.new).seen reader.now.least }
+{
+    shared.meet(pass, other);
 }
 
 /// Cuts the first line off in a turn. The pass keeps what it knows.
@@ -114,7 +133,7 @@ fn a_turn_of_another_pass_is_seen(rt: HostRuntime) -> Result<(), Fail> {
     assert!(rt; (first.caller(), second.caller()) == (0, 1));
     let reader = write(&rt, &shared, &mut second, 0);
     assert!(rt; reader.least == 2);
-    shared.meet(&mut first, &mut second);
+    meet(&shared, &mut first, &mut second, &reader);
     shared.join(&mut first, second);
     let book = shared.close(first).ok_or("the turn is held")?;
     assert!(rt; book.lines.len() == 2);
