@@ -1,5 +1,5 @@
 -- The start of a turnstile, a claim of the turn, and the turn given back keep the rule.
-use Rattle.std.proofs.Common.{◌≡◌, ◌≢◌, ℕ, zero, suc, ◌+◌, ◌-◌, ◌*◌, ◌^◌, ◌%◌, ◌<◌, ◌≤◌, eqb, Bool, true, false, List, [], ◌∷◌, ◌++◌, ◌⊎◌, length, get_or, set, sym, refl, ap, ◌∙◌, subst, ⊎_elim, inl, inr, arith, Option, Some, None, IfSome, All, length-set}
+use Rattle.std.proofs.Common.{◌≡◌, ◌≢◌, ℕ, zero, suc, ◌+◌, ◌*◌, ◌^◌, ◌%◌, ◌<◌, ◌≤◌, eqb, true, List, [], ◌∷◌, ◌++◌, length, get_or, set, sym, refl, ap, ◌∙◌, subst, arith, Option, Some, None, IfSome, All, length-set}
 use Rattle.std.specs.List.{last_or, Contains}
 use Rattle.std.specs.Option.{is_some}
 use Rattle.std.proofs.lemmas.List.{append-nil}
@@ -13,10 +13,10 @@ use Rattle.atomic_table.specs.Table.{State, Me, step, Act, keeps, takes, gives, 
 use Rattle.atomic_table.proofs.Lists.{set_again, exchanged}
 use Rattle.mt_turn.specs.declared.view.Window.{Window}
 use Rattle.mt_turn.specs.declared.view.View.{View}
-use Rattle.mt_turn.specs.Windows.{last_of, end_of, FollowsBy, Follows, InOrder}
+use Rattle.mt_turn.specs.Windows.{last_of, end_of, Follows, InOrder}
 use Rattle.mt_turn.specs.Views.{first_pass, after_take, after_give}
-use Rattle.mt_turn.specs.Turns.{OfTaken, FindsWindow, Finds, MayGive}
-use Rattle.mt_turn.specs.Steps.{Claimed, claimed, left}
+use Rattle.mt_turn.specs.Turns.{OfTaken, FindsWindow, MayGive}
+use Rattle.mt_turn.specs.Steps.{claimed, left}
 use Rattle.mt_turn.specs.Rule.{IsPart, WasHad, AreApart, IsLast, Knows, Kept}
 use Rattle.mt_turn.proofs.WindowLaws.{same_item, follows_again, no_earlier, one_more, last_follows, last_snoc, between, longer, part_grows, part_given}
 use Rattle.mt_turn.proofs.Seats.{item_there, weaken, at_last, apart_back, where_one_changes, differ_still, separated_still, ApartBothWays}

@@ -1,5 +1,5 @@
 -- What each step on the word tells the pass that makes it.
-use Rattle.std.specs.Prelude.{◌≡◌, ◌≢◌, ℕ, List, [], ◌∷◌, Option, Some, None}
+use Rattle.std.specs.Prelude.{◌≡◌, ◌≢◌, ℕ, List, [], ◌∷◌, Option, Some}
 use Rattle.atomic_table.specs.Table.{Me, Step}
 use Rattle.mt_turn.specs.declared.view.Window.{Window}
 use Rattle.mt_turn.specs.declared.view.View.{View}

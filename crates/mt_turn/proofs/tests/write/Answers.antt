@@ -1,4 +1,4 @@
-use Rattle.std.proofs.Common.{rules, sym, subst, ap}
+use Rattle.std.proofs.Common.{rules, sym, subst}
 use Rattle.mt_turn.specs.Windows.{HasSeen}
 use Rattle.mt_turn.proofs.Theorems.{has_seen_last}
 use Rattle.mt_turn.proofs.tests.write.Goals as goal

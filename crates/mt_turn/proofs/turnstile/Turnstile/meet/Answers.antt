@@ -1,4 +1,4 @@
-use Rattle.std.proofs.Common.{rules, Some, subst, ap, ◌∙◌}
+use Rattle.std.proofs.Common.{rules, subst, ap, ◌∙◌}
 use Rattle.mt_turn.specs.Windows.{last_of}
 use Rattle.mt_turn.specs.Views.{sees}
 use Rattle.mt_turn.specs.Passes.{known}
