@@ -15,7 +15,7 @@ use Rattle.mt_turn.specs.Turns.{Finds, IsLater}
 use Rattle.mt_turn.specs.Steps.{looked}
 use Rattle.mt_turn.specs.Rule.{WasHad, IsLast, Knows, Kept}
 use Rattle.mt_turn.proofs.WindowLaws.{same_item, same_window, follows_self, no_earlier, one_more, one_follows, between}
-use Rattle.mt_turn.proofs.Seats.{item_there, weaken, at_last, All_right, where_one_changes, where_one_comes, differ_still, differ_more, separated_still, separated_more, ApartBothWays}
+use Rattle.mt_turn.proofs.Seats.{item_there, weaken, at_last, All_right, where_one_changes, where_one_comes, Differ, differ_still, differ_more, Separated, separated_still, separated_more, ApartBothWays}
 use Rattle.mt_turn.proofs.TurnLaws.{word_is, word_set, apart_of, finds_window}
 
 module _ {E B : Type 0} (base_after : B → E → B) where
@@ -51,15 +51,14 @@ module _ {W E B X F : Type 0} (window : W → Window E B) (base_after : B → E 
   abbrev Last : Window E B → List (Window E B) → ℕ → V → Window E B → Type 0
   Last whole log top = IsLast base_after caller_of whole log top
 
-  -- one view changes, and nothing else
-  changes : (s : St) (k : Rule s) (id : ℕ) (v u : V) (ws : List ℕ) → ws ≡ s.words → get_elem? s.views id ≡ some v → (u.numbered ≡ true → (v.numbered ≡ true) × (u.caller ≡ v.caller))
-      → ((j : ℕ) (w : V) → get_elem? s.views j ≡ some w → j ≢ id → ApartBothWays apart u w) → Known k.whole k.log k.value k.held k.holder k.top id u
-      → Rule record { words = ws; homes = s.homes; views = set s.views id u }
-  changes s k id v u ws e at same fresh knows = record {
+  -- only views change, and the number that no caller's exceeds
+  views_change : (s : St) (k : Rule s) (ws : List ℕ) (vs : List V) (top : ℕ) → ws ≡ s.words → ((j : ℕ) (v : V) → get_elem? vs j ≡ some v → Known k.whole k.log k.value k.held k.holder top j v) → Differ vs → Separated apart vs
+      → Rule record { words = ws; homes = s.homes; views = vs }
+  views_change s k ws vs top e seats differ apart_are = record {
     value = k.value;
     held = k.held;
     holder = k.holder;
-    top = k.top;
+    top = top;
     whole = k.whole;
     log = k.log;
     order = k.order;
@@ -71,10 +70,18 @@ module _ {W E B X F : Type 0} (window : W → Window E B) (base_after : B → E 
     bit = k.bit;
     home = k.home;
     deep = k.deep;
-    seats = where_one_changes (Known k.whole k.log k.value k.held k.holder k.top) s.views id u knows (λ j o ne at'. k.seats j o at');
-    callers = differ_still s.views id v u at same k.callers;
-    apart_are = separated_still apart s.views id u fresh k.apart_are;
+    seats = seats;
+    callers = differ;
+    apart_are = apart_are;
   }
+
+  -- one view changes, and nothing else
+  changes : (s : St) (k : Rule s) (id : ℕ) (v u : V) (ws : List ℕ) → ws ≡ s.words → get_elem? s.views id ≡ some v → (u.numbered ≡ true → (v.numbered ≡ true) × (u.caller ≡ v.caller))
+      → ((j : ℕ) (w : V) → get_elem? s.views j ≡ some w → j ≢ id → ApartBothWays apart u w) → Known k.whole k.log k.value k.held k.holder k.top id u
+      → Rule record { words = ws; homes = s.homes; views = set s.views id u }
+  changes s k id v u ws e at same fresh knows = views_change s k ws (set s.views id u) k.top e
+      (where_one_changes (Known k.whole k.log k.value k.held k.holder k.top) s.views id u knows (λ j o ne at'. k.seats j o at'))
+      (differ_still s.views id v u at same k.callers) (separated_still apart s.views id u fresh k.apart_are)
 
   -- ---- what was told is compared
 
@@ -177,36 +184,20 @@ module _ {W E B X F : Type 0} (window : W → Window E B) (base_after : B → E 
   -- ---- seats split
 
   pub notes : (id : ℕ) (v : V) → Splits Rule id v v (note v.seen)
-  notes id v s k at = let q = k.seats id v at in subst (λ (vs : List V). Rule record { words = s.words; homes = s.homes; views = vs ++ note v.seen ∷ [] }) (sym (set_again s.views id v at)) record {
-    value = k.value;
-    held = k.held;
-    holder = k.holder;
-    top = k.top;
-    whole = k.whole;
-    log = k.log;
-    order = k.order;
-    now = k.now;
-    part = k.part;
-    few = k.few;
-    fixed_is = k.fixed_is;
-    words = k.words;
-    bit = k.bit;
-    home = k.home;
-    deep = k.deep;
-    seats = where_one_comes (Known k.whole k.log k.value k.held k.holder k.top) s.views (note v.seen) k.seats record {
-      order = q.order;
-      seen = weaken (Last k.whole k.log k.top v) (Last k.whole k.log k.top (note v.seen)) (λ x l. record { was = l.was; others = λ n. absurd (false≢true n); low = λ n. absurd (false≢true n) }) (last_of v.seen) q.seen;
-      heard = tt;
-      fixed_is = λ n. absurd (false≢true n);
-      turn = λ n. absurd (false≢true n);
-      low = λ n. absurd (false≢true n);
-      count = λ n. absurd (false≢true n);
-      told = λ _. tt;
-      facts = All-nil _;
-    };
-    callers = differ_more s.views (note v.seen) k.callers (λ i o e n nu. absurd (false≢true nu));
-    apart_are = separated_more apart s.views (note v.seen) refl k.apart_are;
-  }
+  notes id v s k at = let q = k.seats id v at in subst (λ (vs : List V). Rule record { words = s.words; homes = s.homes; views = vs ++ note v.seen ∷ [] }) (sym (set_again s.views id v at))
+      (views_change s k s.words (s.views ++ note v.seen ∷ []) k.top refl
+      (where_one_comes (Known k.whole k.log k.value k.held k.holder k.top) s.views (note v.seen) k.seats record {
+        order = q.order;
+        seen = weaken (Last k.whole k.log k.top v) (Last k.whole k.log k.top (note v.seen)) (λ x l. record { was = l.was; others = λ n. absurd (false≢true n); low = λ n. absurd (false≢true n) }) (last_of v.seen) q.seen;
+        heard = tt;
+        fixed_is = λ n. absurd (false≢true n);
+        turn = λ n. absurd (false≢true n);
+        low = λ n. absurd (false≢true n);
+        count = λ n. absurd (false≢true n);
+        told = λ _. tt;
+        facts = All-nil _;
+      })
+      (differ_more s.views (note v.seen) k.callers (λ i o e n nu. absurd (false≢true nu))) (separated_more apart s.views (note v.seen) refl k.apart_are))
 
   -- a number that no caller's exceeds stays one
   higher : (whole : Window E B) (log : List (Window E B)) (top : ℕ) (v u : V) → u.numbered ≡ v.numbered → u.caller ≡ v.caller → (o : Option (Window E B)) → IfSome o (Last whole log top v) → IfSome o (Last whole log (top + 1) u)
@@ -223,67 +214,51 @@ module _ {W E B X F : Type 0} (window : W → Window E B) (base_after : B → E 
       let q = k.seats id v at in
       let count : v.count ≡ k.top = q.count num zero' in
       let vs = set s.views id (after_split v) in
+      views_change s k s.words (vs ++ split_off v ∷ []) (k.top + 1) refl
+      (where_one_comes (Known k.whole k.log k.value k.held k.holder (k.top + 1)) vs (split_off v)
+      (where_one_changes (Known k.whole k.log k.value k.held k.holder (k.top + 1)) s.views id (after_split v)
       record {
-        value = k.value;
-        held = k.held;
-        holder = k.holder;
-        top = k.top + 1;
-        whole = k.whole;
-        log = k.log;
-        order = k.order;
-        now = k.now;
-        part = k.part;
-        few = k.few;
-        fixed_is = k.fixed_is;
-        words = k.words;
-        bit = k.bit;
-        home = k.home;
-        deep = k.deep;
-        seats = where_one_comes (Known k.whole k.log k.value k.held k.holder (k.top + 1)) vs (split_off v)
-            (where_one_changes (Known k.whole k.log k.value k.held k.holder (k.top + 1)) s.views id (after_split v)
-            record {
-              order = q.order;
-              seen = higher k.whole k.log k.top v (after_split v) refl refl (last_of v.seen) q.seen;
-              heard = q.heard;
-              fixed_is = q.fixed_is;
-              turn = q.turn;
-              low = λ n. let h = q.low n in omega arith;
-              count = λ n z. ap (λ x. x + 1) count;
-              told = q.told;
-              facts = q.facts;
-            }
-            (λ j o ne at'. let p = k.seats j o at' in record {
-              order = p.order;
-              seen = higher k.whole k.log k.top o o refl refl (last_of o.seen) p.seen;
-              heard = p.heard;
-              fixed_is = p.fixed_is;
-              turn = p.turn;
-              low = λ n. let h = p.low n in omega arith;
-              count = λ n z. absurd (ne (k.callers j id o v at' at n num (z ∙ sym zero')));
-              told = p.told;
-              facts = p.facts;
-            }))
-            record {
-              order = q.order;
-              seen = weaken (Last k.whole k.log k.top v) (Last k.whole k.log (k.top + 1) (split_off v))
-                  (λ x l. record {
-                    was = l.was;
-                    others = λ _. All-weaker (λ e. caller_of e ≤ k.top) (λ e. caller_of e ≢ v.count + 1) (λ e h same. omega arith) l.was.rest (l.low num zero');
-                    low = λ _ z. absurd (omega arith);
-                  })
-                  (last_of v.seen) q.seen;
-              heard = tt;
-              fixed_is = λ _. q.fixed_is num;
-              turn = λ n. absurd (false≢true n);
-              low = λ _. omega arith;
-              count = λ _ z. absurd (omega arith);
-              told = q.told;
-              facts = All-nil _;
-            };
-        callers = differ_more vs (split_off v) (differ_still s.views id v (after_split v) at (λ n. (n, refl)) k.callers)
-            (λ i o e n _ same. let h = where_one_changes (λ j o. o.numbered ≡ true → o.caller ≤ k.top) s.views id (after_split v) q.low (λ j o ne at'. (k.seats j o at').low) i o e n in omega arith);
-        apart_are = separated_more apart vs (split_off v) refl (separated_still apart s.views id (after_split v) (apart_of window base_after fixed caller_of holds tells apart about s k id v at) k.apart_are);
+        order = q.order;
+        seen = higher k.whole k.log k.top v (after_split v) refl refl (last_of v.seen) q.seen;
+        heard = q.heard;
+        fixed_is = q.fixed_is;
+        turn = q.turn;
+        low = λ n. let h = q.low n in omega arith;
+        count = λ n z. ap (λ x. x + 1) count;
+        told = q.told;
+        facts = q.facts;
       }
+      (λ j o ne at'. let p = k.seats j o at' in record {
+        order = p.order;
+        seen = higher k.whole k.log k.top o o refl refl (last_of o.seen) p.seen;
+        heard = p.heard;
+        fixed_is = p.fixed_is;
+        turn = p.turn;
+        low = λ n. let h = p.low n in omega arith;
+        count = λ n z. absurd (ne (k.callers j id o v at' at n num (z ∙ sym zero')));
+        told = p.told;
+        facts = p.facts;
+      }))
+      record {
+        order = q.order;
+        seen = weaken (Last k.whole k.log k.top v) (Last k.whole k.log (k.top + 1) (split_off v))
+            (λ x l. record {
+              was = l.was;
+              others = λ _. All-weaker (λ e. caller_of e ≤ k.top) (λ e. caller_of e ≢ v.count + 1) (λ e h same. omega arith) l.was.rest (l.low num zero');
+              low = λ _ z. absurd (omega arith);
+            })
+            (last_of v.seen) q.seen;
+        heard = tt;
+        fixed_is = λ _. q.fixed_is num;
+        turn = λ n. absurd (false≢true n);
+        low = λ _. omega arith;
+        count = λ _ z. absurd (omega arith);
+        told = q.told;
+        facts = All-nil _;
+      })
+      (differ_more vs (split_off v) (differ_still s.views id v (after_split v) at (λ n. (n, refl)) k.callers)
+      (λ i o e n _ same. let h = where_one_changes (λ j o. o.numbered ≡ true → o.caller ≤ k.top) s.views id (after_split v) q.low (λ j o ne at'. (k.seats j o at').low) i o e n in omega arith))
+      (separated_more apart vs (split_off v) refl (separated_still apart s.views id (after_split v) (apart_of window base_after fixed caller_of holds tells apart about s k id v at) k.apart_are))
 
   -- ---- the end
 
