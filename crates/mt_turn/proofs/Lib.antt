@@ -1,0 +1,5 @@
+pub mod WindowLaws
+mod Seats
+mod TurnLaws
+mod MeetLaws
+pub mod Theorems
