@@ -1,11 +1,11 @@
 -- The words of a command are its own word and what is read behind it.
-use Rattle.std.proofs.Common.{◌≡◌, ℕ, List, [], ◌∷◌, length, codes, Result, Ok, Err, refl, sym, ap, subst, arith}
+use Rattle.std.proofs.Common.{◌≡◌, ℕ, List, ◌∷◌, length, codes, Result, Ok, Err, refl, sym, ap, subst, arith}
 use Rattle.mt_words.specs.declared.command.Common.{Common}
 use Rattle.mt_words.specs.declared.command.Command.{Command}
 use Rattle.mt_words.specs.declared.command.Command.TheVariants as command
 use Rattle.mt_words.specs.declared.command.Usage.{Usage}
 use Rattle.mt_words.specs.declared.command.Usage.TheVariants as usage
-use Rattle.mt_words.specs.Words.{IsSession, IsDrill, command_word, IsCommand, IsNoCommand}
+use Rattle.mt_words.specs.Words.{IsSession, IsDrill, command_word, IsNoCommand}
 use Rattle.mt_words.specs.Readings.{ReadsSession, ReadsDrill, Reads}
 
 -- the words of commands are of different lengths

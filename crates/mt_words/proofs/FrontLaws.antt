@@ -1,11 +1,11 @@
 -- How the first words spell an option.
-use Rattle.std.proofs.Common.{◌≡◌, ◌≢◌, ℕ, ◌<◌, ◌≤◌, not, true, ne_eqb, List, [], ◌∷◌, ◌++◌, length, get_or, Option, Some, None, refl, sym, ap, ◌∙◌, subst, arith, inl, inr, MatchOption, Bor}
+use Rattle.std.proofs.Common.{◌≡◌, ◌≢◌, ℕ, ◌<◌, ◌≤◌, not, true, ne_eqb, List, [], ◌∷◌, ◌++◌, length, get_or, Option, Some, None, refl, sym, ap, ◌∙◌, subst, arith, inl, inr, MatchOption}
 use Rattle.std.specs.Prelude.{◌==◌, ◌-◌, String, string_bytes, take, drop}
 use Rattle.std.proofs.lemmas.List.{take_all}
 use Rattle.std.proofs.lemmas.List.Elements.{All-from_get_or}
 use Rattle.std.proofs.lemmas.List.Sums.{list_all-from_AllPass}
 use Rattle.mt_words.specs.declared.settings.Peeled.{Peeled}
-use Rattle.mt_words.specs.Words.{Setting, option_name, value_text, IsTaken, IsSpelled, Spells}
+use Rattle.mt_words.specs.Words.{Setting, option_name, value_text, Spells}
 use Rattle.mt_words.specs.Readings.{texts_of, setting_of, IsNamed, IsNotNamed, IsPair, IsNoPair, IsFront, HasNoFront}
 use Rattle.mt_words.proofs.SettingLaws.{without_equals, none_equals, one_setting, clash, both}
 

@@ -1,5 +1,5 @@
 -- One option more gives its value, where it was not given before, and no option stands twice.
-use Rattle.std.proofs.Common.{◌≡◌, ◌≢◌, ℕ, List, [], ◌∷◌, ◌++◌, length, Option, Some, None, refl, sym, ap, ◌∙◌, arith}
+use Rattle.std.proofs.Common.{◌≡◌, ℕ, List, [], ◌∷◌, ◌++◌, Option, Some, None, refl, sym, ap, ◌∙◌}
 use Rattle.std.specs.List.{filter_map}
 use Rattle.std.specs.Option.{option_to_list}
 use Rattle.std.proofs.lemmas.List.{append-nil}
@@ -32,6 +32,7 @@ twice f before s more x y v w one some e all =
     let first : filter_map f before ≡ y ∷ [] = e ∙ ap option_to_list some in
     let whole : filter_map f before ++ filter_map f (s ∷ more) ≡ y ∷ x ∷ filter_map f more = ap (λ z. z ++ filter_map f (s ∷ more)) first ∙ ap (λ z. y ∷ z) one in
     at_most_one w y x (filter_map f more) (sym whole ∙ sym parts ∙ all)
+
 -- ---- by kind
 
 pub join_table : (before : List Setting) (g : Given) (x : List ℕ) → Gives before g → g.table ≡ None → Gives (before ++ Table x ∷ []) (record { table = Some x; history = g.history; keeper = g.keeper; number = g.number; events = g.events })

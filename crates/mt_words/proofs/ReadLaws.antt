@@ -1,9 +1,9 @@
 -- Options are read one after the other, in the one way in which the words spell them.
-use Rattle.std.proofs.Common.{◌≡◌, ◌≢◌, ℕ, List, [], ◌∷◌, ◌++◌, Option, Some, None, true, false, length, arith, refl, sym, ap, ◌∙◌, subst, append_assoc}
+use Rattle.std.proofs.Common.{◌≡◌, ◌≢◌, ℕ, List, [], ◌∷◌, ◌++◌, true, false, length, arith, refl, sym, ap, ◌∙◌, subst, append_assoc}
 use Rattle.std.specs.Prelude.{◌==◌, String}
 use Rattle.std.proofs.lemmas.List.{append-nil}
 use Rattle.std.proofs.lemmas.Bool.Decides.{Decides-eqb}
-use Rattle.mt_words.specs.Words.{Setting, Spells, Given, Gives, HasOptions}
+use Rattle.mt_words.specs.Words.{Setting, Spells, Given, Gives}
 use Rattle.mt_words.specs.Readings.{texts_of, nothing, IsFront, HasNoFront, HasNoSettings, HasSettings, IsReadTo}
 use Rattle.mt_words.proofs.FrontLaws.{no_words}
 

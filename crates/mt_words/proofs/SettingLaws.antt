@@ -1,13 +1,13 @@
 -- The name of an option fixes which it is, and its value's text fixes the value.
-use Rattle.std.proofs.Common.{◌≡◌, ◌≢◌, ℕ, ◌<◌, ◌≤◌, ◌^◌, Bool, true, false, not, List, [], ◌∷◌, length, get_or, codes, decimal, refl, sym, ap, ◌∙◌, arith}
+use Rattle.std.proofs.Common.{◌≡◌, ℕ, ◌<◌, ◌≤◌, ◌^◌, Bool, true, false, not, List, get_or, codes, decimal, refl, sym, ap, ◌∙◌, arith}
 use Rattle.std.specs.Prelude.{◌==◌, ◌&&◌}
 use Rattle.std.specs.List.{list_all}
 use Rattle.std.proofs.lemmas.Fmt.{decimal_injective}
 use Rattle.mt_model.specs.TableName.{is_table_name}
 use Rattle.mt_words.specs.declared.command.StoreChoice.{StoreChoice}
 use Rattle.mt_words.specs.declared.command.StoreChoice.TheVariants.{Plain}
-use Rattle.mt_words.specs.Words.{Setting, Table, History, Keeper, Number, Events, option_name, keeper_word, value_text, IsTaken}
-use Rattle.mt_words.specs.Readings.{IsNamed, IsNotNamed}
+use Rattle.mt_words.specs.Words.{Setting, Table, History, Keeper, Number, Events, option_name}
+use Rattle.mt_words.specs.Readings.{IsNamed}
 
 -- ---- names differ in their third character
 

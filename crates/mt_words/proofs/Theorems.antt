@@ -1,10 +1,10 @@
 -- Words spell one command at most.
-use Rattle.std.proofs.Common.{◌≡◌, ℕ, List, [], ◌∷◌, ◌++◌, codes, Option, Some, None, refl, sym, ap, ◌∙◌, subst, arith, inl, inr}
+use Rattle.std.proofs.Common.{◌≡◌, ℕ, List, [], ◌∷◌, ◌++◌, Option, Some, None, refl, sym, ap, ◌∙◌, subst, arith, inl, inr}
 use Rattle.std.specs.Option.{option_to_list, unwrap_or}
 use Rattle.mt_words.specs.declared.command.Common.{Common}
 use Rattle.mt_words.specs.declared.command.Command.{Command}
 use Rattle.mt_words.specs.declared.command.Command.TheVariants as command
-use Rattle.mt_words.specs.Words.{Setting, option_name, value_text, Spells, Given, Gives, HasOptions, common_of, IsSession, IsDrill, command_word, IsCommand}
+use Rattle.mt_words.specs.Words.{Setting, option_name, value_text, Spells, Given, Gives, HasOptions, common_of, IsSession, IsDrill, IsCommand}
 use Rattle.mt_words.specs.Readings.{IsFront}
 use Rattle.mt_words.proofs.SettingLaws.{none_equals}
 use Rattle.mt_words.proofs.FrontLaws.{front_is, two_are, no_words}

@@ -1,5 +1,5 @@
 -- What the reader of a command line has read, and what that says of its words.
-use Rattle.std.specs.Prelude.{◌≡◌, ◌≢◌, ℕ, ◌<◌, ◌^◌, List, [], ◌∷◌, ◌++◌, map, decimal, string_bytes, String, Option, Some, None, Result, Ok, Err, option_map, MatchOption}
+use Rattle.std.specs.Prelude.{◌≡◌, ◌≢◌, ℕ, List, [], ◌∷◌, ◌++◌, map, string_bytes, String, Option, None, Result, Ok, Err, option_map, MatchOption}
 use Rattle.std.specs.Borrow.{Bor}
 use Rattle.mt_words.specs.declared.command.Command.{Command}
 use Rattle.mt_words.specs.declared.command.Command.TheVariants as command
@@ -9,7 +9,6 @@ use Rattle.mt_words.specs.declared.command.Usage.TheVariants as usage
 use Rattle.mt_words.specs.declared.settings.Setting.{Setting as Read}
 use Rattle.mt_words.specs.declared.settings.Setting.TheVariants as read
 use Rattle.mt_words.specs.declared.settings.Settings.{Settings}
-use Rattle.mt_words.specs.declared.settings.Peeled.{Peeled}
 use Rattle.mt_words.specs.Words.{Setting, Table, History, Keeper, Number, Events, option_name, value_text, IsTaken, Spells, Given, Gives, HasOptions, IsSession, IsDrill, IsCommand, IsNoCommand}
 
 abbrev pub texts_of : {A : Type 0} → List (String A) → List (List ℕ)

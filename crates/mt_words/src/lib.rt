@@ -3,6 +3,8 @@
 
 mod command;
 mod settings;
+#[cfg(test)]
+mod tests;
 mod words;
 
 pub use command::{Command, Common, StoreChoice, Usage};

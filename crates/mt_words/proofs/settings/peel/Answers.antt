@@ -1,7 +1,7 @@
-use Rattle.std.proofs.Common.{◌≡◌, ◌∷◌, ◌-◌, List, ℕ, length, take, drop, sym, ◌∙◌, subst, arith, Some, None, Bor, MatchOption}
+use Rattle.std.proofs.Common.{◌-◌, List, ℕ, length, take, drop, sym, ◌∙◌, subst, arith, Some, None, MatchOption}
 use Rattle.std.specs.String.{string_bytes}
 use Rattle.std.proofs.lemmas.Str.Pattern.{split_parts}
-use Rattle.mt_words.specs.Readings.{texts_of, setting_of, IsFront, IsPair, IsNoPair}
+use Rattle.mt_words.specs.Readings.{texts_of, setting_of, IsPair, IsNoPair}
 use Rattle.mt_words.proofs.FrontLaws.{Free, free_part, one_at_front, two_at_front, first_and_rest}
 use Rattle.mt_words.proofs.settings.peel.Goals as goal
 

@@ -1,4 +1,4 @@
-use Rattle.std.proofs.Common.{◌≡◌, ◌≢◌, List, [], ℕ, map, length, sym, subst}
+use Rattle.std.proofs.Common.{List, ℕ, sym, subst}
 use Rattle.mt_words.specs.Readings.{texts_of, given_of, setting_of, IsReadTo}
 use Rattle.mt_words.proofs.ReadLaws.{some_left, none_left, one_read, stuck, repeated, all_read}
 use Rattle.mt_words.proofs.settings.read_settings.Goals as goal

@@ -1,5 +1,4 @@
-use Rattle.std.proofs.Common.{◌≡◌, ◌∷◌, ◌-◌, List, ℕ, length, take, drop, sym, ◌∙◌, ap}
-use Rattle.std.specs.String.{string_bytes}
+use Rattle.std.proofs.Common.{◌∷◌, ◌-◌, List, ℕ, length, take, drop, sym, ◌∙◌, ap}
 use Rattle.mt_words.specs.Readings.{texts_of}
 use Rattle.mt_words.proofs.FrontLaws.{first_and_rest}
 use Rattle.mt_words.proofs.CommandLaws.{session_read, drill_read}

@@ -1,6 +1,6 @@
-use Rattle.std.proofs.Common.{◌≡◌, ◌∷◌, ◌++◌, [], sym, ap, ◌∙◌, subst, List, Some, None}
+use Rattle.std.proofs.Common.{◌∷◌, ◌++◌, ap, subst}
 use Rattle.std.specs.Option.{option_map}
-use Rattle.mt_words.specs.Words.{Setting, Given, Gives}
+use Rattle.mt_words.specs.Words.{Setting, Gives}
 use Rattle.mt_words.specs.Readings.{setting_of, given_of}
 use Rattle.mt_words.proofs.GivenLaws.{join_table, two_tables, join_history, two_histories, join_keeper, two_keepers, join_number, two_numbers, join_events, two_events}
 use Rattle.mt_words.proofs.settings.Settings.with.Goals as goal
