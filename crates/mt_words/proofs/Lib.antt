@@ -1,0 +1,6 @@
+mod CommandLaws
+mod FrontLaws
+mod GivenLaws
+mod ReadLaws
+mod SettingLaws
+mod Theorems
