@@ -1,0 +1,24 @@
+use crate::mem::build::{Ask, key, puts_of};
+use mt_chain::{Depot, Keeper};
+use mt_mem::{MemDepot, MemKeeper};
+use mt_model::Tag;
+use std::test::Fail;
+
+#[test]
+fn hands_out_stores(rt: HostRuntime) -> Result<(), Fail> {
+    let alloc = rt.alloc();
+    let old = MemKeeper::new(alloc, 0, Vec::new(alloc));
+    let new = MemKeeper::new(alloc, 1, Vec::new(alloc));
+    let mut depot = MemDepot::new(old, new);
+    let pk = key(alloc, 'p')?;
+    let puts = puts_of(alloc, &[Ask::Insert('z', 9)])?;
+    let mut keeper = depot.open_store(alloc, 1)?;
+    let tags = keeper.apply(alloc, &pk, &puts)?;
+    assert!(rt; tags.as_slice() == [Tag { store: 1, n: 1 }].as_slice());
+    depot.take_back(keeper);
+    let keeper = depot.open_store(alloc, 1)?;
+    assert!(rt; keeper.number() == 1 && keeper.counter() == 1);
+    assert!(rt; depot.open_store(alloc, 1).is_err() && depot.open_store(alloc, 2).is_err());
+    assert!(rt; depot.open_store(alloc, 0)?.number() == 0);
+    Ok(())
+}
