@@ -97,37 +97,40 @@ fn repeated(alloc: Global, piece: &str, times: usize) -> Result<String, Fail> {
     Ok(text)
 }
 
+/// Fields that frame a body, and what is read.
+const LENGTHS: [(&str, Got); 23] = [
+    ("Content-Length: 5", Got::Whole),
+    ("Content-Length: 0005", Got::Whole),
+    ("Transfer-Encoding: chunked", CUT),
+    ("Content-Length: 5\r\nTransfer-Encoding: chunked", FRAMING),
+    ("Transfer-Encoding: chunked\r\nContent-Length: 5", FRAMING),
+    ("Content-Length: 5\r\ncontent-length: 5", FRAMING),
+    ("Content-Length: +5", FRAMING),
+    ("Content-Length: -5", FRAMING),
+    ("Content-Length: 5,5", FRAMING),
+    ("Content-Length: 5 5", FRAMING),
+    ("Content-Length: 0x5", FRAMING),
+    ("Content-Length:", FRAMING),
+    ("Transfer-Encoding: xchunked", FRAMING),
+    ("Transfer-Encoding: chunked, chunked", FRAMING),
+    (
+        "Transfer-Encoding: chunked\r\nTransfer-Encoding: chunked",
+        FRAMING,
+    ),
+    ("Transfer-Encoding: identity", FRAMING),
+    ("Content-Length : 5", HEAD),
+    ("Content-Length: 5\r\n 5", HEAD),
+    ("A: b\rContent-Length: 5", HEAD),
+    ("Content-Length: 6", CUT),
+    ("Content-Length: 4194304", CUT),
+    ("Content-Length: 4194305", LARGE),
+    ("Content-Length: 18446744073709551621", LARGE),
+];
+
 #[test]
 fn smuggled_lengths(rt: HostRuntime) -> Result<(), Fail> {
     let alloc = rt.alloc();
-    for (fields, want) in [
-        ("Content-Length: 5", Got::Whole),
-        ("Content-Length: 0005", Got::Whole),
-        ("Transfer-Encoding: chunked", CUT),
-        ("Content-Length: 5\r\nTransfer-Encoding: chunked", FRAMING),
-        ("Transfer-Encoding: chunked\r\nContent-Length: 5", FRAMING),
-        ("Content-Length: 5\r\ncontent-length: 5", FRAMING),
-        ("Content-Length: +5", FRAMING),
-        ("Content-Length: -5", FRAMING),
-        ("Content-Length: 5,5", FRAMING),
-        ("Content-Length: 5 5", FRAMING),
-        ("Content-Length: 0x5", FRAMING),
-        ("Content-Length:", FRAMING),
-        ("Transfer-Encoding: xchunked", FRAMING),
-        ("Transfer-Encoding: chunked, chunked", FRAMING),
-        (
-            "Transfer-Encoding: chunked\r\nTransfer-Encoding: chunked",
-            FRAMING,
-        ),
-        ("Transfer-Encoding: identity", FRAMING),
-        ("Content-Length : 5", HEAD),
-        ("Content-Length: 5\r\n 5", HEAD),
-        ("A: b\rContent-Length: 5", HEAD),
-        ("Content-Length: 6", CUT),
-        ("Content-Length: 4194304", CUT),
-        ("Content-Length: 4194305", LARGE),
-        ("Content-Length: 18446744073709551621", LARGE),
-    ] {
+    for (fields, want) in LENGTHS {
         let text = format!(in alloc; "POST /Orders HTTP/1.1\r\n{fields}\r\n\r\nabcde")?;
         let got = first(alloc, text.as_str())?;
         assert!(rt; got == want, "{got:?} for {fields}");
@@ -135,30 +138,33 @@ fn smuggled_lengths(rt: HostRuntime) -> Result<(), Fail> {
     Ok(())
 }
 
+/// Bodies in chunks, and what is read.
+const CHUNKS: [(&str, Got); 19] = [
+    ("5\r\nabcde\r\n0\r\n\r\n", Got::Whole),
+    ("5 ;a=b\r\nabcde\r\n00\r\n\r\n", Got::Whole),
+    ("0\r\nA: b\r\nContent-Length: 9\r\n\r\n", Got::Whole),
+    ("0\r\n\n", Got::Whole),
+    ("5\r\nabcdeX\r\n0\r\n\r\n", CUT),
+    ("5\r\nabcd\r\n0\r\n\r\n", CUT),
+    ("5\r\nabcde\n0\r\n\r\n", CUT),
+    ("5\nabcde\r\n0\r\n\r\n", CUT),
+    ("+5\r\nabcde\r\n0\r\n\r\n", CUT),
+    ("0x5\r\nabcde\r\n0\r\n\r\n", CUT),
+    ("00000000000000005\r\nabcde\r\n0\r\n\r\n", CUT),
+    ("5\r\nabc", CUT),
+    ("5\r\nabcde\r\n", CUT),
+    ("0\r\n", CUT),
+    ("0\r\nA: b\r\n", CUT),
+    ("0\r\nGET /Orders HTTP/1.1\r\n\r\n", CUT),
+    ("FFFFFFFFF\r\n", LARGE),
+    ("400001\r\n", LARGE),
+    ("1\r\na\r\n400000\r\n", LARGE),
+];
+
 #[test]
 fn smuggled_chunks(rt: HostRuntime) -> Result<(), Fail> {
     let alloc = rt.alloc();
-    for (body, want) in [
-        ("5\r\nabcde\r\n0\r\n\r\n", Got::Whole),
-        ("5 ;a=b\r\nabcde\r\n00\r\n\r\n", Got::Whole),
-        ("0\r\nA: b\r\nContent-Length: 9\r\n\r\n", Got::Whole),
-        ("0\r\n\n", Got::Whole),
-        ("5\r\nabcdeX\r\n0\r\n\r\n", CUT),
-        ("5\r\nabcd\r\n0\r\n\r\n", CUT),
-        ("5\r\nabcde\n0\r\n\r\n", CUT),
-        ("5\nabcde\r\n0\r\n\r\n", CUT),
-        ("+5\r\nabcde\r\n0\r\n\r\n", CUT),
-        ("0x5\r\nabcde\r\n0\r\n\r\n", CUT),
-        ("00000000000000005\r\nabcde\r\n0\r\n\r\n", CUT),
-        ("5\r\nabc", CUT),
-        ("5\r\nabcde\r\n", CUT),
-        ("0\r\n", CUT),
-        ("0\r\nA: b\r\n", CUT),
-        ("0\r\nGET /Orders HTTP/1.1\r\n\r\n", CUT),
-        ("FFFFFFFFF\r\n", LARGE),
-        ("400001\r\n", LARGE),
-        ("1\r\na\r\n400000\r\n", LARGE),
-    ] {
+    for (body, want) in CHUNKS {
         let text = format!(in alloc;
             "POST /Orders HTTP/1.1\r\nTransfer-Encoding: Chunked\r\n\r\n{body}"
         )?;
@@ -168,39 +174,42 @@ fn smuggled_chunks(rt: HostRuntime) -> Result<(), Fail> {
     Ok(())
 }
 
+/// Bytes, and what is read.
+const HEADS: [(&str, Got); 13] = [
+    ("", Got::End),
+    ("\r\n", HEAD),
+    ("POST /Ord", HEAD),
+    ("\r\nGET / HTTP/1.1\r\n\r\n", Got::Whole),
+    ("GET / HTTP/1.1\n\n", Got::Whole),
+    (
+        "GET / HTTP/1.0\r\nConnection: keep-alive\r\n\r\n",
+        Got::Last,
+    ),
+    ("GET / HTTP/2.0\r\n\r\n", HEAD),
+    ("GET  / HTTP/1.1\r\n\r\n", HEAD),
+    (
+        "GET / HTTP/1.1\r\nConnection: x\r\nConnection: a,\t Close ,b\r\n\r\n",
+        Got::Last,
+    ),
+    ("GET / HTTP/1.1\r\nConnection: closed\r\n\r\n", Got::Whole),
+    (
+        "GET / HTTP/1.1\r\nContent-Encoding: identity\r\n\r\n",
+        Got::Whole,
+    ),
+    (
+        "GET / HTTP/1.1\r\nContent-Encoding: gzip\r\n\r\n",
+        Got::Refused(501, Code::CompressedBody, false),
+    ),
+    (
+        "GET / HTTP/1.0\r\nContent-Encoding: gzip\r\n\r\n",
+        Got::Refused(501, Code::CompressedBody, true),
+    ),
+];
+
 #[test]
 fn heads(rt: HostRuntime) -> Result<(), Fail> {
     let alloc = rt.alloc();
-    for (text, want) in [
-        ("", Got::End),
-        ("\r\n", HEAD),
-        ("POST /Ord", HEAD),
-        ("\r\nGET / HTTP/1.1\r\n\r\n", Got::Whole),
-        ("GET / HTTP/1.1\n\n", Got::Whole),
-        (
-            "GET / HTTP/1.0\r\nConnection: keep-alive\r\n\r\n",
-            Got::Last,
-        ),
-        ("GET / HTTP/2.0\r\n\r\n", HEAD),
-        ("GET  / HTTP/1.1\r\n\r\n", HEAD),
-        (
-            "GET / HTTP/1.1\r\nConnection: x\r\nConnection: a,\t Close ,b\r\n\r\n",
-            Got::Last,
-        ),
-        ("GET / HTTP/1.1\r\nConnection: closed\r\n\r\n", Got::Whole),
-        (
-            "GET / HTTP/1.1\r\nContent-Encoding: identity\r\n\r\n",
-            Got::Whole,
-        ),
-        (
-            "GET / HTTP/1.1\r\nContent-Encoding: gzip\r\n\r\n",
-            Got::Refused(501, Code::CompressedBody, false),
-        ),
-        (
-            "GET / HTTP/1.0\r\nContent-Encoding: gzip\r\n\r\n",
-            Got::Refused(501, Code::CompressedBody, true),
-        ),
-    ] {
+    for (text, want) in HEADS {
         let got = first(alloc, text)?;
         assert!(rt; got == want, "{got:?} for {text}");
     }
@@ -307,46 +316,77 @@ fn no_read_behind_a_request(rt: HostRuntime) -> Result<(), Fail> {
     Ok(())
 }
 
+const CONTINUE: &str = "HTTP/1.1 100 Continue\r\n\r\n";
+
+/// Fields, the write that fails, what is read, and what is written.
+const EXPECTING: [(&str, u64, Got, &str); 10] = [
+    (
+        "Expect: 100-Continue\r\nContent-Length: 4",
+        9,
+        Got::Whole,
+        CONTINUE,
+    ),
+    (
+        "Expect: 100-Continue\r\nTransfer-Encoding: chunked",
+        9,
+        CUT,
+        CONTINUE,
+    ),
+    (
+        "Expect: 100-Continue\r\nContent-Length: 5",
+        9,
+        CUT,
+        CONTINUE,
+    ),
+    (
+        "Expect: 100-Continue\r\nContent-Length: 4\r\nContent-Encoding: x",
+        9,
+        Got::Refused(501, Code::CompressedBody, false),
+        CONTINUE,
+    ),
+    (
+        "Expect: 100-Continue\r\nContent-Length: 0",
+        9,
+        Got::Whole,
+        "",
+    ),
+    (
+        "Expect: 100-Continue\r\nContent-Length: 4194305",
+        9,
+        LARGE,
+        "",
+    ),
+    ("Expect: 100-Continue\r\nContent-Length: x", 9, FRAMING, ""),
+    (
+        "Expect: 100-Continue\r\nContent-Length: 4",
+        1,
+        Got::WriteFault,
+        "",
+    ),
+    (
+        "Expect: 100-Continue\r\nContent-Length: 0",
+        1,
+        Got::Whole,
+        "",
+    ),
+    (
+        "Expect: x\r\nExpect: 100-continue\r\nContent-Length: 4",
+        9,
+        Got::Whole,
+        "",
+    ),
+];
+
 #[test]
 fn continues(rt: HostRuntime) -> Result<(), Fail> {
     let alloc = rt.alloc();
-    let once = "HTTP/1.1 100 Continue\r\n\r\n";
-    for (fields, writes, want, held) in [
-        ("Content-Length: 4", 9, Got::Whole, once),
-        ("Transfer-Encoding: chunked", 9, CUT, once),
-        ("Content-Length: 5", 9, CUT, once),
-        (
-            "Content-Length: 4\r\nContent-Encoding: x",
-            9,
-            Got::Refused(501, Code::CompressedBody, false),
-            once,
-        ),
-        ("Content-Length: 0", 9, Got::Whole, ""),
-        ("Content-Length: 4194305", 9, LARGE, ""),
-        ("Content-Length: x", 9, FRAMING, ""),
-        ("Content-Length: 4", 1, Got::WriteFault, ""),
-        ("Content-Length: 0", 1, Got::Whole, ""),
-    ] {
-        let text = format!(in alloc;
-            "POST / HTTP/1.1\r\nExpect: 100-Continue\r\n{fields}\r\n\r\nabcd"
-        )?;
-        let mut connection = Connection::new(alloc, text.as_str(), &[], &[], &[writes])?;
+    for (fields, write, want, held) in EXPECTING {
+        let text = format!(in alloc; "POST / HTTP/1.1\r\n{fields}\r\n\r\nabcd")?;
+        let mut connection = Connection::new(alloc, text.as_str(), &[], &[], &[write])?;
         let got = connection.next(alloc);
         assert!(rt; got == want, "{got:?} for {fields}");
         assert!(rt; connection.sink.held() == held.as_bytes(), "{fields}");
     }
-    let mut connection = Connection::new(
-        alloc,
-        "POST / HTTP/1.1\r\nExpect: x\r\nExpect: 100-continue\r\nContent-Length: 1\r\n\r\na",
-        &[],
-        &[],
-        &[],
-    )?;
-    let got = connection.next(alloc);
-    assert!(rt;
-        got == Got::Whole && connection.sink.held().is_empty(),
-        "{got:?}"
-    );
     Ok(())
 }
 

@@ -14,6 +14,8 @@ enum Sample {
     Int32(i32),
     Int64(i64),
     Guid([u8; 16]),
+    /// A guid with that first and last byte, and 7 between.
+    Ends(u8, u8),
     Moment(i64),
 }
 
@@ -25,6 +27,9 @@ fn value(alloc: Global, sample: Sample) -> Result<Value, Fail> {
         Sample::Int32(n) => Value::Int32(n),
         Sample::Int64(n) => Value::Int64(n),
         Sample::Guid(bytes) => Value::Guid(bytes),
+        Sample::Ends(first, last) => Value::Guid([
+            first, 7, 7, 7, 7, 7, 7, 7, 7, 7, 7, 7, 7, 7, 7, last,
+        ]),
         Sample::Moment(ticks) => Value::Moment(ticks),
     })
 }
@@ -93,11 +98,6 @@ fn answers(order: Option<Ordering>) -> [bool; 6] {
     }
 }
 
-/// A guid with that first and last byte, and 7 between.
-fn guid(first: u8, last: u8) -> Sample {
-    Sample::Guid([first, 7, 7, 7, 7, 7, 7, 7, 7, 7, 7, 7, 7, 7, 7, last])
-}
-
 /// Whether each comparison of a stored value and a literal answers as it is to in that order.
 fn answers_by(
     alloc: Global,
@@ -114,60 +114,87 @@ fn answers_by(
     Ok(is_right)
 }
 
+/// A stored value, a literal, and how they are ordered.
+const ONE_TYPE: [(Sample, Sample, Ordering); 28] = [
+    (Sample::Str("a"), Sample::Str("ab"), Ordering::Less),
+    (Sample::Str("a"), Sample::Str("a"), Ordering::Equal),
+    (Sample::Str("a"), Sample::Str("B"), Ordering::Greater),
+    (
+        Sample::Str("\u{10000}"),
+        Sample::Str("\u{ffff}"),
+        Ordering::Greater,
+    ),
+    (Sample::Binary(""), Sample::Binary("\0"), Ordering::Less),
+    (Sample::Binary("ab"), Sample::Binary("ab"), Ordering::Equal),
+    (Sample::Binary("b"), Sample::Binary("ab"), Ordering::Greater),
+    (Sample::Bool(false), Sample::Bool(true), Ordering::Less),
+    (Sample::Bool(false), Sample::Bool(false), Ordering::Equal),
+    (Sample::Bool(true), Sample::Bool(false), Ordering::Greater),
+    (Sample::Int32(-2), Sample::Int32(1), Ordering::Less),
+    (Sample::Int32(9), Sample::Int32(9), Ordering::Equal),
+    (Sample::Int32(10), Sample::Int32(9), Ordering::Greater),
+    (
+        Sample::Int32(1),
+        Sample::Int64(4_294_967_297),
+        Ordering::Less,
+    ),
+    (Sample::Int32(1), Sample::Int64(1), Ordering::Equal),
+    (
+        Sample::Int32(-1),
+        Sample::Int64(i64::MIN),
+        Ordering::Greater,
+    ),
+    (
+        Sample::Int64(i64::MIN),
+        Sample::Int32(i32::MIN),
+        Ordering::Less,
+    ),
+    (Sample::Int64(1), Sample::Int32(1), Ordering::Equal),
+    (
+        Sample::Int64(4_294_967_297),
+        Sample::Int32(1),
+        Ordering::Greater,
+    ),
+    (Sample::Int64(-1), Sample::Int64(0), Ordering::Less),
+    (
+        Sample::Int64(i64::MAX),
+        Sample::Int64(i64::MAX),
+        Ordering::Equal,
+    ),
+    (Sample::Int64(10), Sample::Int64(9), Ordering::Greater),
+    (Sample::Ends(1, 9), Sample::Ends(2, 1), Ordering::Less),
+    (Sample::Ends(1, 9), Sample::Ends(1, 9), Ordering::Equal),
+    (Sample::Ends(1, 10), Sample::Ends(1, 9), Ordering::Greater),
+    (Sample::Moment(0), Sample::Moment(1), Ordering::Less),
+    (Sample::Moment(5), Sample::Moment(5), Ordering::Equal),
+    (Sample::Moment(10), Sample::Moment(9), Ordering::Greater),
+];
+
 #[test]
 fn compares_values_of_one_type(rt: HostRuntime) -> Result<(), Fail> {
-    let less = Ordering::Less;
-    let equal = Ordering::Equal;
-    let greater = Ordering::Greater;
-    for (stored, literal, order) in [
-        (Sample::Str("a"), Sample::Str("ab"), less),
-        (Sample::Str("a"), Sample::Str("a"), equal),
-        (Sample::Str("a"), Sample::Str("B"), greater),
-        (Sample::Str("\u{10000}"), Sample::Str("\u{ffff}"), greater),
-        (Sample::Binary(""), Sample::Binary("\0"), less),
-        (Sample::Binary("ab"), Sample::Binary("ab"), equal),
-        (Sample::Binary("b"), Sample::Binary("ab"), greater),
-        (Sample::Bool(false), Sample::Bool(true), less),
-        (Sample::Bool(false), Sample::Bool(false), equal),
-        (Sample::Bool(true), Sample::Bool(false), greater),
-        (Sample::Int32(-2), Sample::Int32(1), less),
-        (Sample::Int32(9), Sample::Int32(9), equal),
-        (Sample::Int32(10), Sample::Int32(9), greater),
-        (Sample::Int32(1), Sample::Int64(4_294_967_297), less),
-        (Sample::Int32(1), Sample::Int64(1), equal),
-        (Sample::Int32(-1), Sample::Int64(i64::MIN), greater),
-        (Sample::Int64(i64::MIN), Sample::Int32(i32::MIN), less),
-        (Sample::Int64(1), Sample::Int32(1), equal),
-        (Sample::Int64(4_294_967_297), Sample::Int32(1), greater),
-        (Sample::Int64(-1), Sample::Int64(0), less),
-        (Sample::Int64(i64::MAX), Sample::Int64(i64::MAX), equal),
-        (Sample::Int64(10), Sample::Int64(9), greater),
-        (guid(1, 9), guid(2, 1), less),
-        (guid(1, 9), guid(1, 9), equal),
-        (guid(1, 10), guid(1, 9), greater),
-        (Sample::Moment(0), Sample::Moment(1), less),
-        (Sample::Moment(5), Sample::Moment(5), equal),
-        (Sample::Moment(10), Sample::Moment(9), greater),
-    ] {
+    for (stored, literal, order) in ONE_TYPE {
         assert!(rt; answers_by(rt.alloc(), stored, literal, Some(order))?);
     }
     Ok(())
 }
 
+/// A stored value and a literal of another type.
+const TWO_TYPES: [(Sample, Sample); 10] = [
+    (Sample::Int32(1), Sample::Str("x")),
+    (Sample::Str("1"), Sample::Int32(1)),
+    (Sample::Str("a"), Sample::Binary("a")),
+    (Sample::Binary("a"), Sample::Str("a")),
+    (Sample::Bool(true), Sample::Int32(1)),
+    (Sample::Int64(1), Sample::Bool(true)),
+    (Sample::Int64(5), Sample::Moment(5)),
+    (Sample::Moment(5), Sample::Int64(5)),
+    (Sample::Binary("7777777777777777"), Sample::Guid([55; 16])),
+    (Sample::Guid([55; 16]), Sample::Binary("7777777777777777")),
+];
+
 #[test]
 fn fails_on_two_types(rt: HostRuntime) -> Result<(), Fail> {
-    for (stored, literal) in [
-        (Sample::Int32(1), Sample::Str("x")),
-        (Sample::Str("1"), Sample::Int32(1)),
-        (Sample::Str("a"), Sample::Binary("a")),
-        (Sample::Binary("a"), Sample::Str("a")),
-        (Sample::Bool(true), Sample::Int32(1)),
-        (Sample::Int64(1), Sample::Bool(true)),
-        (Sample::Int64(5), Sample::Moment(5)),
-        (Sample::Moment(5), Sample::Int64(5)),
-        (Sample::Binary("7777777777777777"), Sample::Guid([55; 16])),
-        (Sample::Guid([55; 16]), Sample::Binary("7777777777777777")),
-    ] {
+    for (stored, literal) in TWO_TYPES {
         assert!(rt; answers_by(rt.alloc(), stored, literal, None)?);
     }
     Ok(())
@@ -193,19 +220,41 @@ fn fails_on_what_clients_do_not_see(rt: HostRuntime) -> Result<(), Fail> {
     Ok(())
 }
 
+/// How two tests are joined.
+#[derive(Clone, Copy)]
+enum Joint {
+    Both,
+    Either,
+    Neither,
+}
+
+/// The tests whether A is the one number and the other, joined.
+fn joined(alloc: Global, joint: Joint, a: i64, b: i64) -> Result<Filter, Fail> {
+    let left = test(alloc, "A", Compare::Eq, Sample::Int64(a))?;
+    let right = test(alloc, "A", Compare::Eq, Sample::Int64(b))?;
+    match joint {
+        Joint::Both => and(alloc, left, right),
+        Joint::Either => or(alloc, left, right),
+        Joint::Neither => not(alloc, or(alloc, left, right)?),
+    }
+}
+
+/// What the joined tests answer of A = 1 where they are of 1 and 1, 1 and 2, 2 and 1, and 2 and 2.
+const JOINED: [(Joint, [bool; 4]); 3] = [
+    (Joint::Both, [true, false, false, false]),
+    (Joint::Either, [true, true, true, false]),
+    (Joint::Neither, [false, false, false, true]),
+];
+
 #[test]
 fn joins_tests(rt: HostRuntime) -> Result<(), Fail> {
     let alloc = rt.alloc();
     let entity = row(alloc, Some(Sample::Int32(1)))?;
-    for (a, b) in [(1, 1), (1, 2), (2, 1), (2, 2)] {
-        let left = test(alloc, "A", Compare::Eq, Sample::Int64(a))?;
-        let right = test(alloc, "A", Compare::Eq, Sample::Int64(b))?;
-        let both = and(alloc, left.copy(alloc)?, right.copy(alloc)?)?;
-        assert!(rt; matches(&both, &entity) == (a == 1 && b == 1));
-        let either = or(alloc, left, right)?;
-        assert!(rt; matches(&either, &entity) == (a == 1 || b == 1));
-        let neither = not(alloc, either)?;
-        assert!(rt; matches(&neither, &entity) == (a == 2 && b == 2));
+    for (joint, answers) in JOINED {
+        for ((a, b), answer) in [(1, 1), (1, 2), (2, 1), (2, 2)].into_iter().zip(answers) {
+            let filter = joined(alloc, joint, a, b)?;
+            assert!(rt; matches(&filter, &entity) == answer, "{a} and {b}");
+        }
     }
     Ok(())
 }
@@ -221,18 +270,21 @@ fn negates_tests_of_absent_properties(rt: HostRuntime) -> Result<(), Fail> {
     Ok(())
 }
 
+/// Tests of the key (p, r), and their answers.
+const KEYS: [(&str, Compare, Sample, bool); 6] = [
+    ("PartitionKey", Compare::Eq, Sample::Str("p"), true),
+    ("PartitionKey", Compare::Lt, Sample::Str("p"), false),
+    ("PartitionKey", Compare::Gt, Sample::Str("Q"), true),
+    ("RowKey", Compare::Ge, Sample::Str("p"), true),
+    ("RowKey", Compare::Ne, Sample::Str("r"), false),
+    ("RowKey", Compare::Ne, Sample::Int32(5), false),
+];
+
 #[test]
 fn compares_keys(rt: HostRuntime) -> Result<(), Fail> {
     let alloc = rt.alloc();
     let entity = row(alloc, None)?;
-    for (name, compare, literal, answer) in [
-        ("PartitionKey", Compare::Eq, Sample::Str("p"), true),
-        ("PartitionKey", Compare::Lt, Sample::Str("p"), false),
-        ("PartitionKey", Compare::Gt, Sample::Str("Q"), true),
-        ("RowKey", Compare::Ge, Sample::Str("p"), true),
-        ("RowKey", Compare::Ne, Sample::Str("r"), false),
-        ("RowKey", Compare::Ne, Sample::Int32(5), false),
-    ] {
+    for (name, compare, literal, answer) in KEYS {
         let filter = test(alloc, name, compare, literal)?;
         assert!(rt; matches(&filter, &entity) == answer, "{name} {compare:?}");
     }
@@ -243,6 +295,10 @@ fn compares_keys(rt: HostRuntime) -> Result<(), Fail> {
 #[derive(Clone, Copy)]
 enum Part {
     Test(&'static str, Compare, Sample),
+    /// On the partition key.
+    Partition(Compare, &'static str),
+    /// On the row key.
+    Row(Compare, &'static str),
     Negated(&'static str, Compare, Sample),
     Either(&'static str, Compare, Sample),
 }
@@ -250,6 +306,8 @@ enum Part {
 fn conjunct(alloc: Global, part: Part) -> Result<Filter, Fail> {
     match part {
         Part::Test(name, compare, literal) => test(alloc, name, compare, literal),
+        Part::Partition(compare, text) => test(alloc, "PartitionKey", compare, Sample::Str(text)),
+        Part::Row(compare, text) => test(alloc, "RowKey", compare, Sample::Str(text)),
         Part::Negated(name, compare, literal) => {
             let inner = test(alloc, name, compare, literal)?;
             not(alloc, inner)
@@ -278,14 +336,6 @@ fn conjunction(alloc: Global, parts: [Part; 2], is_left: bool) -> Result<Filter,
     }
 }
 
-fn partition(name: Compare, text: &'static str) -> Part {
-    Part::Test("PartitionKey", name, Sample::Str(text))
-}
-
-fn row_key(name: Compare, text: &'static str) -> Part {
-    Part::Test("RowKey", name, Sample::Str(text))
-}
-
 /// Bounds of texts.
 type Expected = (
     &'static str,
@@ -310,59 +360,82 @@ fn are_bounds(bounds: &Bounds, expected: Expected) -> bool {
         && is_text(&bounds.rk_high, rk_high)
 }
 
+/// No bounds.
+const FREE: Expected = ("", None, "", None);
+
+/// Two conjuncts, and the bounds of the keys that they leave.
+const BOUNDS: [([Part; 2], Expected); 11] = [
+    (
+        [
+            Part::Partition(Compare::Eq, "p"),
+            Part::Row(Compare::Ge, "b"),
+        ],
+        ("p", Some("p"), "b", None),
+    ),
+    ([OTHER, OTHER], FREE),
+    (
+        [
+            Part::Partition(Compare::Gt, "a"),
+            Part::Partition(Compare::Ge, "b"),
+        ],
+        ("b", None, "", None),
+    ),
+    (
+        [
+            Part::Partition(Compare::Gt, "b"),
+            Part::Partition(Compare::Ge, "a"),
+        ],
+        ("b", None, "", None),
+    ),
+    (
+        [Part::Row(Compare::Lt, "x"), Part::Row(Compare::Le, "y")],
+        ("", None, "", Some("x")),
+    ),
+    (
+        [Part::Row(Compare::Le, "y"), Part::Row(Compare::Lt, "x")],
+        ("", None, "", Some("x")),
+    ),
+    (
+        [
+            Part::Partition(Compare::Gt, "b"),
+            Part::Partition(Compare::Lt, "a"),
+        ],
+        ("b", Some("a"), "", None),
+    ),
+    (
+        [
+            Part::Partition(Compare::Eq, "p"),
+            Part::Partition(Compare::Eq, "q"),
+        ],
+        ("q", Some("p"), "", None),
+    ),
+    (
+        [
+            Part::Partition(Compare::Ne, "p"),
+            Part::Row(Compare::Ne, "r"),
+        ],
+        FREE,
+    ),
+    (
+        [
+            Part::Test("PartitionKey", Compare::Ge, Sample::Int32(5)),
+            Part::Test("RowKey", Compare::Eq, Sample::Bool(true)),
+        ],
+        FREE,
+    ),
+    (
+        [
+            Part::Negated("PartitionKey", Compare::Eq, Sample::Str("p")),
+            Part::Either("RowKey", Compare::Le, Sample::Str("r")),
+        ],
+        FREE,
+    ),
+];
+
 #[test]
 fn bounds_keys(rt: HostRuntime) -> Result<(), Fail> {
     let alloc = rt.alloc();
-    let free: Expected = ("", None, "", None);
-    for (parts, expected) in [
-        (
-            [partition(Compare::Eq, "p"), row_key(Compare::Ge, "b")],
-            ("p", Some("p"), "b", None),
-        ),
-        ([OTHER, OTHER], free),
-        (
-            [partition(Compare::Gt, "a"), partition(Compare::Ge, "b")],
-            ("b", None, "", None),
-        ),
-        (
-            [partition(Compare::Gt, "b"), partition(Compare::Ge, "a")],
-            ("b", None, "", None),
-        ),
-        (
-            [row_key(Compare::Lt, "x"), row_key(Compare::Le, "y")],
-            ("", None, "", Some("x")),
-        ),
-        (
-            [row_key(Compare::Le, "y"), row_key(Compare::Lt, "x")],
-            ("", None, "", Some("x")),
-        ),
-        (
-            [partition(Compare::Gt, "b"), partition(Compare::Lt, "a")],
-            ("b", Some("a"), "", None),
-        ),
-        (
-            [partition(Compare::Eq, "p"), partition(Compare::Eq, "q")],
-            ("q", Some("p"), "", None),
-        ),
-        (
-            [partition(Compare::Ne, "p"), row_key(Compare::Ne, "r")],
-            free,
-        ),
-        (
-            [
-                Part::Test("PartitionKey", Compare::Ge, Sample::Int32(5)),
-                Part::Test("RowKey", Compare::Eq, Sample::Bool(true)),
-            ],
-            free,
-        ),
-        (
-            [
-                Part::Negated("PartitionKey", Compare::Eq, Sample::Str("p")),
-                Part::Either("RowKey", Compare::Le, Sample::Str("r")),
-            ],
-            free,
-        ),
-    ] {
+    for (parts, expected) in BOUNDS {
         for is_left in [true, false] {
             let filter = conjunction(alloc, parts, is_left)?;
             assert!(rt; are_bounds(&key_bounds(alloc, &filter)?, expected));
@@ -371,38 +444,50 @@ fn bounds_keys(rt: HostRuntime) -> Result<(), Fail> {
     Ok(())
 }
 
+/// Two conjuncts, and the partition that they name.
+const PARTITIONS: [([Part; 2], Option<&str>); 6] = [
+    (
+        [
+            Part::Partition(Compare::Eq, "p"),
+            Part::Row(Compare::Ge, "b"),
+        ],
+        Some("p"),
+    ),
+    (
+        [
+            Part::Partition(Compare::Eq, "p"),
+            Part::Partition(Compare::Eq, "q"),
+        ],
+        Some("p"),
+    ),
+    ([OTHER, Part::Partition(Compare::Eq, "q")], Some("q")),
+    (
+        [
+            Part::Partition(Compare::Ge, "p"),
+            Part::Row(Compare::Eq, "r"),
+        ],
+        None,
+    ),
+    (
+        [
+            Part::Test("PartitionKey", Compare::Eq, Sample::Int32(5)),
+            Part::Either("PartitionKey", Compare::Eq, Sample::Str("p")),
+        ],
+        None,
+    ),
+    (
+        [
+            Part::Negated("PartitionKey", Compare::Eq, Sample::Str("p")),
+            Part::Partition(Compare::Eq, "q"),
+        ],
+        Some("q"),
+    ),
+];
+
 #[test]
 fn names_the_first_partition(rt: HostRuntime) -> Result<(), Fail> {
     let alloc = rt.alloc();
-    for (parts, expected) in [
-        (
-            [partition(Compare::Eq, "p"), row_key(Compare::Ge, "b")],
-            Some("p"),
-        ),
-        (
-            [partition(Compare::Eq, "p"), partition(Compare::Eq, "q")],
-            Some("p"),
-        ),
-        ([OTHER, partition(Compare::Eq, "q")], Some("q")),
-        (
-            [partition(Compare::Ge, "p"), row_key(Compare::Eq, "r")],
-            None,
-        ),
-        (
-            [
-                Part::Test("PartitionKey", Compare::Eq, Sample::Int32(5)),
-                Part::Either("PartitionKey", Compare::Eq, Sample::Str("p")),
-            ],
-            None,
-        ),
-        (
-            [
-                Part::Negated("PartitionKey", Compare::Eq, Sample::Str("p")),
-                partition(Compare::Eq, "q"),
-            ],
-            Some("q"),
-        ),
-    ] {
+    for (parts, expected) in PARTITIONS {
         for is_left in [true, false] {
             let filter = conjunction(alloc, parts, is_left)?;
             let found = atomic_partition(&filter).map(|text| text.as_str());

@@ -31,11 +31,25 @@ fn numbered(alloc: Global, count: usize) -> Result<Vec<Prop>, Fail> {
     Ok(list)
 }
 
+/// A list of one property.
+fn one(alloc: Global, name: &str, value: Value) -> Result<Vec<Prop>, Fail> {
+    let mut list = Vec::new(alloc);
+    list.push(prop(alloc, name, value)?)?;
+    Ok(list)
+}
+
+/// Numbers as properties of these names.
+fn numbers(alloc: Global, items: &[(&str, i32)]) -> Result<Props, Fail> {
+    let mut list = Vec::new(alloc);
+    for (name, number) in items {
+        list.push(prop(alloc, name, Value::Int32(*number))?)?;
+    }
+    Ok(Props::build(alloc, list)?)
+}
+
 /// What `build` says of a list of one property.
 fn built(alloc: Global, value: Value) -> Result<Option<PropsFault>, Fail> {
-    let mut list = Vec::new(alloc);
-    list.push(prop(alloc, "A", value)?)?;
-    match Props::build(alloc, list) {
+    match Props::build(alloc, one(alloc, "A", value)?) {
         Ok(_) => Ok(None),
         Err(fault) => Ok(Some(fault)),
     }
@@ -177,13 +191,9 @@ fn counts_properties(rt: HostRuntime) -> Result<(), Fail> {
 }
 
 #[test]
-fn changes_properties(rt: HostRuntime) -> Result<(), Fail> {
+fn hides_properties(rt: HostRuntime) -> Result<(), Fail> {
     let alloc = rt.alloc();
-    let mut list = Vec::new(alloc);
-    for (name, number) in [("b", 1), ("a", 2), ("_é", 3)] {
-        list.push(prop(alloc, name, Value::Int32(number))?)?;
-    }
-    let mut props = Props::build(alloc, list)?;
+    let mut props = numbers(alloc, &[("b", 1), ("a", 2), ("_é", 3)])?;
     assert!(rt; props.size() == 17);
     assert!(rt; props.hidden(Hidden::Kind).is_none());
     props.add_hidden(alloc, Hidden::Kind, "x")?;
@@ -199,9 +209,20 @@ fn changes_properties(rt: HostRuntime) -> Result<(), Fail> {
     }
     let seen = props.visible(alloc)?;
     assert!(rt; seen.as_slice().len() == 3 && !seen.same(&props));
-    let mut one = Vec::new(alloc);
-    one.push(prop(alloc, "b", Value::Bool(true))?)?;
-    let both = seen.merge(alloc, &Props::build(alloc, one)?)?;
+    Ok(())
+}
+
+/// What clients see of three numbers, with one of them replaced.
+fn merged(alloc: Global) -> Result<Props, Fail> {
+    let props = numbers(alloc, &[("b", 1), ("a", 2), ("_é", 3)])?;
+    let over = Props::build(alloc, one(alloc, "b", Value::Bool(true))?)?;
+    Ok(props.visible(alloc)?.merge(alloc, &over)?)
+}
+
+#[test]
+fn merges_properties(rt: HostRuntime) -> Result<(), Fail> {
+    let alloc = rt.alloc();
+    let both = merged(alloc)?;
     assert!(rt; both.size() == 14 && both == both.copy(alloc)?);
     let name = Name::read(alloc, "a")?;
     match both.get(&name) {
@@ -215,20 +236,30 @@ fn changes_properties(rt: HostRuntime) -> Result<(), Fail> {
     Ok(())
 }
 
-#[test]
-#[tactic(auto, using(mt_model::proofs::Rows::rows_empty))]
-fn keeps_entities(rt: HostRuntime) -> Result<(), Fail> {
-    let alloc = rt.alloc();
+/// An entity with one property.
+fn entity(alloc: Global) -> Result<Entity, Fail> {
     let bytes = Blob::of(alloc, b"\x00\xff")?;
-    let mut list = Vec::new(alloc);
-    list.push(prop(alloc, "B", Value::Binary(bytes))?)?;
-    let entity = Entity {
+    let props = Props::build(alloc, one(alloc, "B", Value::Binary(bytes))?)?;
+    Ok(Entity {
         key: Key::read(alloc, "p", "r")?,
-        props: Props::build(alloc, list)?,
+        props,
         tag: Tag { store: 1, n: 7 },
-    };
+    })
+}
+
+#[test]
+fn copies_entities(rt: HostRuntime) -> Result<(), Fail> {
+    let alloc = rt.alloc();
+    let entity = entity(alloc)?;
     let copy = entity.copy(alloc)?;
     assert!(rt; copy == entity);
+    Ok(())
+}
+
+#[test]
+#[tactic(auto, using(mt_model::proofs::Rows::rows_empty))]
+fn keeps_lists(rt: HostRuntime) -> Result<(), Fail> {
+    let alloc = rt.alloc();
     let mut items = Vec::new(alloc);
     items.push(Text::of(alloc, "x")?)?;
     let texts = Texts::of(items);

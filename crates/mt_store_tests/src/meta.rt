@@ -24,108 +24,6 @@ fn row(alloc: Global, tag: Tag, kind: Option<&str>, kept: Option<&str>) -> Resul
 }
 
 #[test]
-fn reads_marks(rt: HostRuntime) -> Result<(), Fail> {
-    let alloc = rt.alloc();
-    let own = Tag { store: 1, n: 5 };
-    let kept = Tag { store: 0, n: 2 };
-    for (kind, text, mark, seen) in [
-        (None, None, None, Some(own)),
-        (None, Some("W/\"0.2\""), None, Some(own)),
-        (Some("live"), None, Some(Mark::Live), Some(own)),
-        (Some("live"), Some("W/\"0.2\""), None, Some(own)),
-        (
-            Some("copy"),
-            Some("W/\"0.2\""),
-            Some(Mark::Copy(kept)),
-            Some(kept),
-        ),
-        (Some("copy"), None, None, None),
-        (Some("copy"), Some("W/\"0.02\""), None, None),
-        (Some("copy"), Some("W/\"4294967296.2\""), None, None),
-        (Some("copy"), Some("0.2"), None, None),
-        (Some("tomb"), None, Some(Mark::Tomb), None),
-        (Some("tomb"), Some("W/\"0.2\""), None, None),
-        (Some("use-new"), None, None, None),
-        (Some("Live"), None, None, None),
-        (Some(""), None, None, None),
-    ] {
-        let row = row(alloc, own, kind, text)?;
-        assert!(rt; mark_of(&row) == mark);
-        assert!(rt; seen_tag(&row) == seen);
-    }
-    Ok(())
-}
-
-#[test]
-fn reads_phases(rt: HostRuntime) -> Result<(), Fail> {
-    let alloc = rt.alloc();
-    let tag = Some("W/\"0.2\"");
-    for (store, kind, kept, old, new) in [
-        (0, Some("use-old"), None, Some(Phase::UseOld), None),
-        (0, Some("prefer-old"), None, Some(Phase::PreferOld), None),
-        (1, Some("prefer-new"), None, Some(Phase::PreferNew), None),
-        (0, Some("use-new"), None, None, Some(NewPhase::UseNew)),
-        (
-            1,
-            Some("use-new"),
-            None,
-            Some(Phase::UseOld),
-            Some(NewPhase::UseNew),
-        ),
-        (1, Some("filling"), None, None, Some(NewPhase::Filling)),
-        (0, Some("use-old"), tag, None, None),
-        (1, Some("use-new"), tag, None, None),
-        (1, Some("filling"), tag, None, None),
-        (0, Some("live"), None, None, None),
-        (0, Some("Use-Old"), None, None, None),
-        (0, None, None, None, None),
-    ] {
-        let row = row(alloc, Tag { store, n: 1 }, kind, kept)?;
-        assert!(rt; old_phase(&row) == old);
-        assert!(rt; new_phase(&row) == new);
-    }
-    Ok(())
-}
-
-#[test]
-fn overlays(rt: HostRuntime) -> Result<(), Fail> {
-    let alloc = rt.alloc();
-    let own = Tag { store: 1, n: 5 };
-    let kept = Tag { store: 0, n: 2 };
-    let below = Tag { store: 0, n: 3 };
-    let plain = row(alloc, below, None, None)?;
-    let odd = row(alloc, below, Some("tomb"), None)?;
-    let live = row(alloc, own, Some("live"), None)?;
-    let copy = row(alloc, own, Some("copy"), Some("W/\"0.2\""))?;
-    let tomb = row(alloc, own, Some("tomb"), None)?;
-    let bad = row(alloc, own, Some("copy"), Some("W/\"0.2"))?;
-    for (old, new, filling, use_new) in [
-        (None, None, Choice::Nothing, Choice::Nothing),
-        (Some(&plain), None, Choice::OldRow(below), Choice::Nothing),
-        (Some(&odd), None, Choice::Nothing, Choice::Nothing),
-        (
-            Some(&plain),
-            Some(&live),
-            Choice::NewRow(own),
-            Choice::NewRow(own),
-        ),
-        (
-            Some(&plain),
-            Some(&copy),
-            Choice::OldRow(below),
-            Choice::NewRow(kept),
-        ),
-        (None, Some(&copy), Choice::Nothing, Choice::NewRow(kept)),
-        (Some(&plain), Some(&tomb), Choice::Nothing, Choice::Nothing),
-        (Some(&plain), Some(&bad), Choice::Nothing, Choice::Nothing),
-    ] {
-        assert!(rt; overlay(NewPhase::Filling, old, new) == filling);
-        assert!(rt; overlay(NewPhase::UseNew, old, new) == use_new);
-    }
-    Ok(())
-}
-
-#[test]
 fn stores_marks(rt: HostRuntime) -> Result<(), Fail> {
     let alloc = rt.alloc();
     let kept = Tag { store: 0, n: 2 };
@@ -161,8 +59,8 @@ struct Reading {
     new: Option<NewPhase>,
     /// Over a plain row of old while new fills, and once new is used alone.
     shown: (Choice, Choice),
-    /// As a row of old, with no entry in new, while new fills.
-    through: Choice,
+    /// The tag that clients see.
+    seen: Option<Tag>,
 }
 
 const OWN: Tag = Tag { store: 1, n: 5 };
@@ -179,15 +77,15 @@ const MALFORMED: Reading = Reading {
     old: (None, None),
     new: None,
     shown: (Choice::Nothing, Choice::Nothing),
-    through: Choice::Nothing,
+    seen: None,
 };
 
-const READINGS: [Reading; 21] = [
+const READINGS: [Reading; 28] = [
     Reading {
         kind: Some("live"),
         mark: Some(Mark::Live),
         shown: (Choice::NewRow(OWN), Choice::NewRow(OWN)),
-        through: Choice::OldRow(OWN),
+        seen: Some(OWN),
         ..MALFORMED
     },
     Reading {
@@ -195,7 +93,7 @@ const READINGS: [Reading; 21] = [
         kept: Some("W/\"0.2\""),
         mark: Some(Mark::Copy(KEPT)),
         shown: (Choice::OldRow(BELOW), Choice::NewRow(KEPT)),
-        through: Choice::OldRow(KEPT),
+        seen: Some(KEPT),
         ..MALFORMED
     },
     Reading {
@@ -204,7 +102,7 @@ const READINGS: [Reading; 21] = [
         ..MALFORMED
     },
     Reading {
-        through: Choice::OldRow(OWN),
+        seen: Some(OWN),
         ..MALFORMED
     },
     Reading {
@@ -236,13 +134,13 @@ const READINGS: [Reading; 21] = [
     // From here on none has a form.
     Reading {
         kept: Some("W/\"0.2\""),
-        through: Choice::OldRow(OWN),
+        seen: Some(OWN),
         ..MALFORMED
     },
     Reading {
         kind: Some("live"),
         kept: Some("W/\"0.2\""),
-        through: Choice::OldRow(OWN),
+        seen: Some(OWN),
         ..MALFORMED
     },
     Reading {
@@ -252,6 +150,26 @@ const READINGS: [Reading; 21] = [
     Reading {
         kind: Some("copy"),
         kept: Some(""),
+        ..MALFORMED
+    },
+    Reading {
+        kind: Some("copy"),
+        kept: Some("0.2"),
+        ..MALFORMED
+    },
+    Reading {
+        kind: Some("copy"),
+        kept: Some("W/\"0.2"),
+        ..MALFORMED
+    },
+    Reading {
+        kind: Some("copy"),
+        kept: Some("W/\"0.02\""),
+        ..MALFORMED
+    },
+    Reading {
+        kind: Some("copy"),
+        kept: Some("W/\"4294967296.2\""),
         ..MALFORMED
     },
     Reading {
@@ -280,6 +198,11 @@ const READINGS: [Reading; 21] = [
         ..MALFORMED
     },
     Reading {
+        kind: Some("use-new"),
+        kept: Some("W/\"0.2\""),
+        ..MALFORMED
+    },
+    Reading {
         kind: Some("filling"),
         kept: Some("W/\"0.2\""),
         ..MALFORMED
@@ -289,26 +212,50 @@ const READINGS: [Reading; 21] = [
         ..MALFORMED
     },
     Reading {
+        kind: Some("Use-Old"),
+        ..MALFORMED
+    },
+    Reading {
+        kind: Some("Live"),
+        ..MALFORMED
+    },
+    Reading {
         kind: Some(""),
         ..MALFORMED
     },
 ];
 
+/// What is chosen of a row of old, with no entry in new, while new fills.
+fn through(seen: Option<Tag>) -> Choice {
+    match seen {
+        Some(tag) => Choice::OldRow(tag),
+        None => Choice::Nothing,
+    }
+}
+
+fn is_marked(reading: Reading, entry: &StoredRow, below: &StoredRow) -> bool {
+    let (in_store_0, above) = reading.old;
+    mark_of(entry) == reading.mark
+        && seen_tag(entry) == reading.seen
+        && new_phase(entry) == reading.new
+        && new_phase(below) == reading.new
+        && old_phase(below) == in_store_0
+        && old_phase(entry) == above
+}
+
+fn is_shown(reading: Reading, plain: &StoredRow, entry: &StoredRow) -> bool {
+    let (filling, use_new) = reading.shown;
+    overlay(NewPhase::Filling, Some(plain), Some(entry)) == filling
+        && overlay(NewPhase::UseNew, Some(plain), Some(entry)) == use_new
+        && overlay(NewPhase::Filling, Some(entry), None) == through(reading.seen)
+        && overlay(NewPhase::UseNew, Some(entry), None) == Choice::Nothing
+}
+
 fn reads_as(alloc: Global, reading: Reading) -> Result<bool, Fail> {
     let entry = row(alloc, OWN, reading.kind, reading.kept)?;
     let below = row(alloc, BELOW, reading.kind, reading.kept)?;
     let plain = row(alloc, BELOW, None, None)?;
-    let (filling, use_new) = reading.shown;
-    let (in_store_0, above) = reading.old;
-    Ok(
-        mark_of(&entry) == reading.mark
-            && new_phase(&entry) == reading.new
-            && old_phase(&below) == in_store_0
-            && old_phase(&entry) == above
-            && overlay(NewPhase::Filling, Some(&plain), Some(&entry)) == filling
-            && overlay(NewPhase::UseNew, Some(&plain), Some(&entry)) == use_new
-            && overlay(NewPhase::Filling, Some(&entry), None) == reading.through,
-    )
+    Ok(is_marked(reading, &entry, &below) && is_shown(reading, &plain, &entry))
 }
 
 #[test]
@@ -318,5 +265,16 @@ fn reads_every_form_and_malformed_rows(rt: HostRuntime) -> Result<(), Fail> {
         let same = reads_as(alloc, reading)?;
         assert!(rt; same);
     }
+    Ok(())
+}
+
+#[test]
+fn shows_rows_that_old_lacks(rt: HostRuntime) -> Result<(), Fail> {
+    let alloc = rt.alloc();
+    assert!(rt; overlay(NewPhase::Filling, None, None) == Choice::Nothing);
+    assert!(rt; overlay(NewPhase::UseNew, None, None) == Choice::Nothing);
+    let copy = row(alloc, OWN, Some("copy"), Some("W/\"0.2\""))?;
+    assert!(rt; overlay(NewPhase::Filling, None, Some(&copy)) == Choice::Nothing);
+    assert!(rt; overlay(NewPhase::UseNew, None, Some(&copy)) == Choice::NewRow(KEPT));
     Ok(())
 }
