@@ -230,6 +230,3 @@ pub fn apply_batch(
     leave_all(alloc, &mut rows, ops, left)?;
     Ok(Applied { rows, tags })
 }
-
-#[cfg(test)]
-mod tests;

@@ -10,10 +10,6 @@ mod lexeme;
 mod next;
 mod quoted;
 mod reader;
-#[cfg(test)]
-mod reader_tests;
-#[cfg(test)]
-mod tests;
 mod value;
 mod words;
 

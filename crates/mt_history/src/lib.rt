@@ -5,8 +5,6 @@ mod entry;
 mod history;
 pub mod model;
 mod need;
-#[cfg(test)]
-mod tests;
 
 pub use entry::{Entry, What};
 pub use history::History;

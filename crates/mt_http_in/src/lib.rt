@@ -8,8 +8,6 @@ mod framing;
 mod heads;
 mod reader;
 mod requests;
-#[cfg(test)]
-mod tests;
 mod trailers;
 
 pub use fields::{Field, Fields, first_value, says};

@@ -8,8 +8,6 @@ mod member;
 mod members;
 mod quote;
 mod read;
-#[cfg(test)]
-mod tests;
 mod value;
 mod write;
 

@@ -4,8 +4,6 @@
 mod bounds;
 mod matching;
 mod partition;
-#[cfg(test)]
-mod tests;
 
 pub use bounds::{Bounds, key_bounds};
 pub use matching::matches;

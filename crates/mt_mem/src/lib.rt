@@ -11,6 +11,3 @@ mod rewrite;
 
 pub use depot::MemDepot;
 pub use keeper::MemKeeper;
-
-#[cfg(test)]
-mod tests;

@@ -5,8 +5,6 @@ mod fact;
 mod mark;
 mod marker;
 mod showing;
-#[cfg(test)]
-mod tests;
 
 pub use fact::{Fact, Keys};
 pub use mark::{Mark, mark_of, mark_of_props, seen_tag, seen_tag_of_props, stored};

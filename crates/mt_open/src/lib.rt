@@ -12,8 +12,6 @@ mod phases;
 mod reading;
 mod table;
 mod tags;
-#[cfg(test)]
-mod tests;
 mod walk;
 
 pub use damage::{Damage, Rule};

@@ -4,8 +4,6 @@
 mod fields;
 mod print;
 mod read;
-#[cfg(test)]
-mod tests;
 
 pub use print::print_utc;
 pub use read::{BadDate, read_utc};

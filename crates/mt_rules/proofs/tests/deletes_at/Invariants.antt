@@ -1,6 +1,0 @@
-use Rattle.std.proofs.Common.{All}
-use Rattle.mt_rules.specs.Batches.{MayAsk}
-use Rattle.mt_rules.proofs.tests.deletes_at.Given as goal
-
-abbrev pub invariant-loop-pk : goal.invariant-loop-pk
-invariant-loop-pk l = All MayAsk l.ops.items
