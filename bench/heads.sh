@@ -20,7 +20,7 @@ LIMIT = 4 << 20
 
 def seconds(data, replies):
     took = []
-    for _ in range(3):
+    for _ in range(9):
         start = time.perf_counter()
         out = subprocess.run([sys.argv[1], "session"], input=data, capture_output=True, check=True).stdout
         took.append(time.perf_counter() - start)

@@ -74,13 +74,9 @@ fn texts_of(output: Output) -> (&'static str, &'static str) {
 /// Whether a run over this input ends with the status and writes that.
 fn ends(alloc: Global, plan: Plan, input: &str, status: u8, output: Output) -> Result<bool, Fail> {
     let (front, back) = texts_of(output);
+    let want = format!(in alloc; "{front}{back}")?;
     let (found, got) = ran(alloc, plan, input)?;
-    Ok(
-        found == status
-            && got.len() == front.len() + back.len()
-            && got.as_str().starts_with(front)
-            && got.as_str().ends_with(back),
-    )
+    Ok(found == status && got.as_str() == want.as_str())
 }
 
 /// The first insert behind a request line of this version, these fields, and this framing.
