@@ -1,14 +1,13 @@
 -- A chunk: a key that wants no put is exact, what a wanted put leaves is exact, and what is known of the epoch then.
-use Rattle.std.proofs.Common.{◌≡◌, ◌≢◌, ◌⊎◌, ℕ, ◌+◌, ◌≤◌, Bool, true, false, cond, not, ◌&&◌, ◌||◌, List, [], ◌∷◌, ◌++◌, map, filter, Option, Some, None, refl, sym, ap, subst, ◌∙◌, arith, inl, inr, bytes_eq, codes, Less, Equal, Greater, Ordering}
+use Rattle.std.proofs.Common.{◌≡◌, ◌≢◌, ◌⊎◌, ℕ, Bool, true, false, cond, not, ◌&&◌, ◌||◌, List, [], ◌∷◌, ◌++◌, map, filter, Option, Some, None, refl, sym, ap, subst, ◌∙◌, inl, inr, bytes_eq, codes, Less, Equal, Greater, Ordering}
 use Rattle.std.specs.Prelude.{option_map, is_some, IfSome}
-use Rattle.std.proofs.lemmas.Bool.{and_parts, or_cases}
+use Rattle.std.proofs.lemmas.Bool.{or_cases}
 use Rattle.std.specs.List.{AllByRecursion}
 use Rattle.std.specs.Ordering.{is_le, is_lt, ordering_reverse}
 use Rattle.std.specs.Cmp.Lexicographic.{nat_list_cmp_total, nat_list_eq_equiv}
 use Rattle.mt_model.specs.declared.name.Hidden.TheVariants as hidden
 use Rattle.mt_model.specs.declared.tag.Tag.{Tag}
 use Rattle.mt_model.specs.declared.value.Prop.{Prop}
-use Rattle.mt_model.specs.Key.{key_fault}
 use Rattle.mt_model.specs.Tag.{IsTag}
 use Rattle.mt_model.specs.Name.{hidden_name}
 use Rattle.mt_model.specs.Props.{is_visible, hidden_text, text_of, value_at}
@@ -26,21 +25,20 @@ use Rattle.mt_chain.proofs.PutLaws.{left_by, row_after, is_named, row_after_unna
 use Rattle.mt_meta.specs.declared.mark.Mark.{Mark}
 use Rattle.mt_meta.specs.declared.mark.Mark.TheVariants.{Live, Copy, Tomb}
 use Rattle.mt_meta.specs.Markers.{marker_key}
-use Rattle.mt_meta.specs.Marks.{mark_named, copy_named, mark_in, mark_of, kept_tag, seen_in, seen_tag, marked, stored}
+use Rattle.mt_meta.specs.Marks.{mark_in, mark_of, kept_tag, seen_in, seen_tag, marked, stored}
 use Rattle.mt_meta.specs.TagTexts.{read_tag}
-use Rattle.mt_meta.specs.Logical.{Pair, old_at, new_at, old_state_at, new_state_at, new_says, new_state, shown_as, shown_with, from_old}
-use Rattle.mt_meta.specs.Sound.{HasTag, IsOldRow, IsEntry, IsKept, IsSound}
-use Rattle.mt_meta.specs.declared.fact.Keys.{Keys}
+use Rattle.mt_meta.specs.Logical.{Pair, old_at, new_at, old_state_at, shown_as, shown_with, from_old}
+use Rattle.mt_meta.specs.Sound.{HasTag, IsOldRow, IsEntry, IsSound}
 use Rattle.mt_meta.specs.declared.fact.Keys.TheVariants as keys
 use Rattle.mt_meta.specs.Facts.{is_in, InKeys, KnowsRow, KnowsKept, KnowsEpoch, Exact, is_prefer_new}
 use Rattle.mt_meta.proofs.MarkLaws.{live_reads, copy_reads, copy_visible, visible_value}
 use Rattle.mt_meta.proofs.StorePuts.{Leaves, the_row}
 use Rattle.mt_migrate.specs.declared.chunk.Want.{Want}
 use Rattle.mt_migrate.specs.declared.chunk.Want.TheVariants.{Nothing, Insert, Replace, Delete}
-use Rattle.mt_migrate.specs.Chunks.{are_alike, insert_want, replace_want, copy_want, entry_want, want_of, is_of_chunk, want_at, is_want, wants_put, waiting, props_of, put_by, put_at, KeepsTag, IsWanted, ArePuts}
+use Rattle.mt_migrate.specs.Chunks.{are_alike, insert_want, replace_want, entry_want, want_of, is_of_chunk, want_at, is_want, wants_put, waiting, props_of, put_by, put_at, KeepsTag, IsWanted, ArePuts}
 use Rattle.mt_migrate.specs.Moves.{past}
 use Rattle.mt_migrate.specs.Known.{done_keys}
-use Rattle.mt_migrate.proofs.Merging.{text_cmp, or_left, or_right, or_neither, text_equal, has, not_there, nothing_wanted}
+use Rattle.mt_migrate.proofs.Merging.{text_cmp, or_left, or_right, has, not_there, nothing_wanted}
 use Rattle.mt_migrate.proofs.MarkerChanges.{tag_same}
 use Rattle.mt_migrate.proofs.CopyChanges.{IsCopyAt, KnowsCopy, CopyPut, copy_tag}
 

@@ -1,13 +1,12 @@
 -- The copies of a chunk are written: the pair stays sound, and clients see the same.
-use Rattle.std.proofs.Common.{◌≡◌, ◌≢◌, ◌⊎◌, ℕ, ◌+◌, ◌≤◌, Bool, true, false, ◌||◌, List, [], ◌∷◌, Option, Some, None, refl, sym, ap, ◌∙◌, subst, arith, inl, inr, bytes_eq}
+use Rattle.std.proofs.Common.{◌≡◌, ◌≢◌, ◌⊎◌, ℕ, ◌≤◌, true, false, ◌||◌, List, [], ◌∷◌, Option, Some, None, refl, sym, ap, ◌∙◌, subst, arith, inl, inr}
 use Rattle.mt_model.specs.declared.tag.Tag.{Tag}
 use Rattle.mt_model.specs.declared.value.Prop.{Prop}
 use Rattle.mt_model.specs.Key.{key_fault}
 use Rattle.mt_chain.specs.declared.row.Stored.{Stored}
 use Rattle.mt_chain.specs.declared.row.Put.{Put}
 use Rattle.mt_chain.specs.declared.row.Put.TheVariants.{Check, Insert, Replace, Delete}
-use Rattle.mt_chain.specs.Rows.{row_at}
-use Rattle.mt_chain.specs.Puts.{row_key, has_tag, holds, unmet_from}
+use Rattle.mt_chain.specs.Puts.{row_key, has_tag, unmet_from}
 use Rattle.mt_chain.specs.StoreCall.{Contents}
 use Rattle.mt_chain.proofs.KeyLaws.{text_false}
 use Rattle.mt_chain.proofs.PutLaws.{row_after, all_puts, is_named, row_after_unnamed, Each, Held, each_held}
@@ -15,7 +14,7 @@ use Rattle.mt_chain.proofs.JudgeLaws.{contents_after}
 use Rattle.mt_meta.specs.declared.mark.Mark.TheVariants.{Copy}
 use Rattle.mt_meta.specs.Markers.{marker_key}
 use Rattle.mt_meta.specs.Marks.{mark_of}
-use Rattle.mt_meta.specs.Logical.{Pair, new_says, new_state, old_at, new_at, old_state_at, new_state_at, from_old, from_both, logical}
+use Rattle.mt_meta.specs.Logical.{Pair, new_says, new_state, old_at, new_at, old_state_at, new_state_at}
 use Rattle.mt_meta.specs.Sound.{IsNewMarker, IsEntry, IsCopyOrNone, IsKept, IsSound}
 use Rattle.mt_meta.specs.Modes.{Mode, Empty, AtOld, Prepared, Copying, Overlaid, Settled, NewOnly, Broken, mode_of, mode, rank, FitsMode, shown_in}
 use Rattle.mt_meta.specs.declared.fact.Keys.{Keys}
@@ -24,12 +23,12 @@ use Rattle.mt_meta.specs.declared.fact.Fact.{Fact}
 use Rattle.mt_meta.specs.declared.fact.Fact.TheVariants.{Epoch}
 use Rattle.mt_meta.specs.Facts.{KnowsRow, KnowsEpoch, ApartFrom, is_filling}
 use Rattle.mt_meta.specs.Steps.{with_new}
-use Rattle.mt_meta.proofs.Rules.{key_cases, to_modes}
+use Rattle.mt_meta.proofs.Rules.{to_modes}
 use Rattle.mt_meta.proofs.ShownLaws.{logical_in}
 use Rattle.mt_meta.proofs.ModeLaws.{filling_ranks}
 use Rattle.mt_meta.proofs.StorePuts.{moves_puts, Leaves, Touched, touched, seen, no_row, the_row}
 use Rattle.mt_meta.proofs.Parts.{FormsAt, KeptAt, kept_on, new_step}
-use Rattle.mt_migrate.proofs.MarkerChanges.{Shows, same_at, along, tagged, copy_through}
+use Rattle.mt_migrate.proofs.MarkerChanges.{Shows, same_at, tagged, copy_through}
 
 -- ---- puts of copies
 

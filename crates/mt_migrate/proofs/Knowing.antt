@@ -1,32 +1,22 @@
 -- What a migrator knows: how its facts lie apart, how they last, and what each of its reads tells.
-use Rattle.std.proofs.Common.{◌≡◌, ◌≢◌, ◌⊎◌, ℕ, ◌+◌, ◌<◌, ◌≤◌, ◌==◌, Bool, true, false, cond, not, ◌&&◌, List, [], ◌∷◌, ◌++◌, map, take, length, nat_lt, Option, Some, None, refl, sym, ap, subst, ◌∙◌, arith, inl, inr, bytes_eq, Less, Equal, Greater, Ordering}
+use Rattle.std.proofs.Common.{◌≡◌, ◌≢◌, ◌⊎◌, ℕ, ◌<◌, Bool, true, false, cond, ◌&&◌, List, [], ◌∷◌, ◌++◌, take, length, nat_lt, Option, Some, None, refl, sym, ap, subst, ◌∙◌, arith, inl, inr, bytes_eq, Less, Equal, Greater, Ordering}
 use Rattle.std.specs.Prelude.{option_map, is_some, IfSome}
 use Rattle.std.specs.List.{AllByRecursion, cons_option}
-use Rattle.std.specs.Ordering.{nat_cmp, is_lt, is_le, is_eq, ordering_reverse}
-use Rattle.std.specs.Cmp.Lexicographic.{slice_cmp, nat_list_cmp_total, texts_ties}
-use Rattle.mt_model.specs.declared.key.KeyPart.TheVariants.{Partition}
+use Rattle.std.specs.Ordering.{nat_cmp, is_lt, is_le, is_eq}
+use Rattle.std.specs.Cmp.Lexicographic.{slice_cmp, texts_ties}
 use Rattle.mt_model.specs.declared.tag.Tag.{Tag}
 use Rattle.mt_model.specs.declared.value.Prop.{Prop}
-use Rattle.mt_model.specs.Key.{part_fault, key_fault}
+use Rattle.mt_model.specs.Key.{key_fault}
 use Rattle.mt_chain.specs.declared.ask.Side.TheVariants.{Old, New}
-use Rattle.mt_chain.specs.declared.ask.StoreAsk.{StoreAsk}
-use Rattle.mt_chain.specs.declared.ask.StoreReply.{StoreReply}
-use Rattle.mt_chain.specs.declared.ask.StoreReply.TheVariants as reply
 use Rattle.mt_chain.specs.declared.query.PkFrom.{PkFrom}
 use Rattle.mt_chain.specs.declared.query.PkFrom.TheVariants as start
-use Rattle.mt_chain.specs.declared.query.RkFrom.TheVariants.{Start}
 use Rattle.mt_chain.specs.declared.query.Found.{Found}
 use Rattle.mt_chain.specs.declared.row.Stored.{Stored}
 use Rattle.mt_chain.specs.declared.row.StoredRow.{StoredRow}
-use Rattle.mt_chain.specs.declared.row.Put.{Put}
-use Rattle.mt_chain.specs.declared.row.Put.TheVariants as put
-use Rattle.mt_chain.specs.Rows.{Rows, row_at, row_in, shown, named_rows, has_partition, are_rising, is_from, is_upto, is_within, is_past, rows_within}
-use Rattle.mt_chain.specs.Puts.{row_key, unmet_from, is_same_tag, has_tag, tags_of, next_tag}
-use Rattle.mt_chain.specs.StoreCall.{Contents, Done, UnmetAt, SealedOff, judge, IsFound, IsNext, sealed_of}
-use Rattle.mt_chain.proofs.KeyLaws.{text_true, text_same}
+use Rattle.mt_chain.specs.Rows.{Rows, row_at, row_in, shown, named_rows, has_partition, are_rising, is_from, is_upto, is_past, rows_within}
+use Rattle.mt_chain.specs.StoreCall.{Contents, IsNext}
+use Rattle.mt_chain.proofs.KeyLaws.{text_true}
 use Rattle.mt_chain.proofs.RowLaws.{no_partition}
-use Rattle.mt_chain.proofs.PutLaws.{left_by, row_after, all_puts, Each}
-use Rattle.mt_chain.proofs.JudgeLaws.{WasDone, was_done, contents_after, was_sealed_off, sealed_off_parts}
 use Rattle.mt_meta.specs.declared.marker.Phase.{Phase}
 use Rattle.mt_meta.specs.declared.marker.Phase.TheVariants.{UseOld, PreferOld, PreferNew}
 use Rattle.mt_meta.specs.declared.marker.NewPhase.{NewPhase}
@@ -34,20 +24,20 @@ use Rattle.mt_meta.specs.declared.marker.NewPhase.TheVariants.{Filling, UseNew}
 use Rattle.mt_meta.specs.declared.mark.Mark.TheVariants.{Copy}
 use Rattle.mt_meta.specs.Markers.{marker_key, marker_props, old_kind, new_kind, old_phase_of, new_phase_of}
 use Rattle.mt_meta.specs.Marks.{mark_of, seen_tag}
-use Rattle.mt_meta.specs.Logical.{Pair, OldState, NoOld, AtUseOld, AtPreferOld, AtPreferNew, NewState, NoNew, AtFilling, AtUseNew, old_says, new_says, old_state, new_state, old_at, new_at, old_state_at, new_state_at, logical}
-use Rattle.mt_meta.specs.Sound.{IsOldMarker, IsNewMarker, IsKept, AreTags, IsSound}
-use Rattle.mt_meta.specs.Modes.{Mode, Empty, AtOld, Prepared, Copying, Overlaid, Settled, NewOnly, Broken, mode, rank}
+use Rattle.mt_meta.specs.Logical.{Pair, old_at, new_at, old_state_at, new_state_at}
+use Rattle.mt_meta.specs.Sound.{IsOldMarker, IsKept, AreTags, IsSound}
+use Rattle.mt_meta.specs.Modes.{Mode, Empty, AtOld, Prepared, Copying, Overlaid, Settled, NewOnly, Broken, mode}
 use Rattle.mt_meta.specs.declared.fact.Keys.{Keys}
 use Rattle.mt_meta.specs.declared.fact.Keys.TheVariants as keys
 use Rattle.mt_meta.specs.declared.fact.Fact.{Fact}
 use Rattle.mt_meta.specs.declared.fact.Fact.TheVariants as fact
-use Rattle.mt_meta.specs.Facts.{is_in, InKeys, IsBehind, is_begun, is_prefer_new, is_marked, is_filling, is_use_new, KnowsRow, KnowsKept, KnowsTurned, KnowsEpoch, KnowsSwept, Holds, Apart, ApartFrom, IsPlain, AllPlain, Grows}
-use Rattle.mt_meta.specs.Steps.{AllHold, row_facts, with_old, with_new, PairMeans, ActorStep}
+use Rattle.mt_meta.specs.Facts.{is_prefer_new, is_marked, is_use_new, KnowsRow, KnowsKept, KnowsTurned, KnowsEpoch, KnowsSwept, Holds, Apart, ApartFrom, IsPlain, AllPlain, Grows}
+use Rattle.mt_meta.specs.Steps.{AllHold, row_facts}
 use Rattle.std.proofs.lemmas.Bool.{lt-ltb}
 use Rattle.mt_meta.proofs.Rules.{old_read, new_read, key_cases}
-use Rattle.mt_meta.proofs.ModeLaws.{IsWhole, old_in, new_in, says, whole, marked_rank, rank_from, prefer_new_ranks}
-use Rattle.mt_meta.proofs.Growth.{grows_self, fact_kept, no_rows}
-use Rattle.mt_meta.proofs.Actors.{plain_left, plain_right, plain_apart, plain_rows}
+use Rattle.mt_meta.proofs.ModeLaws.{IsWhole, old_in, new_in, says, whole}
+use Rattle.mt_meta.proofs.Growth.{fact_kept}
+use Rattle.mt_meta.proofs.Actors.{plain_left}
 use Rattle.mt_meta.proofs.StorePuts.{the_row}
 use Rattle.mt_migrate.specs.declared.state.Walk.{Walk}
 use Rattle.mt_migrate.specs.declared.state.Walk.TheVariants.{BeforeSeal, AfterSeal}
@@ -55,19 +45,12 @@ use Rattle.mt_migrate.specs.declared.state.Pass.{Pass}
 use Rattle.mt_migrate.specs.declared.state.Pass.TheVariants.{First, Second}
 use Rattle.mt_migrate.specs.declared.state.Part.{Part}
 use Rattle.mt_migrate.specs.declared.state.Copying.{Copying as CopyingPart}
-use Rattle.mt_migrate.specs.declared.state.Reading.{Reading}
-use Rattle.mt_migrate.specs.declared.state.State.{State}
-use Rattle.mt_migrate.specs.declared.state.State.TheVariants as at
-use Rattle.mt_migrate.specs.Chunks.{end_of, chunk_end, lesser, is_wanting, waiting, wants_put, IsWanted, ArePuts}
-use Rattle.mt_migrate.specs.Moves.{past, next_rows, Asks, begin, onward, walked, by_old_phase, by_old_marker, looked, by_new_phase, claimed, pass_begun, first_tag, with_marker, by_pass, by_read_phase, read_old, pass_done, chunk_done, compared, read_new, unwritten, reading_of, after_next, after_seal, after_read, after_write, after_sealed_off, after_unmet, moved, MigratorFits, AreNext, tag_or, marker_tag}
-use Rattle.mt_migrate.specs.Known.{behind, walk_facts, old_known, rows_known, epoch_known, done_keys, done_known, kept_fact, kept_facts, state_facts}
-use Rattle.mt_migrate.specs.MoverSteps.{ShowsSame, MoverStep}
-use Rattle.mt_meta.proofs.Parts.{by_part}
-use Rattle.mt_migrate.proofs.Merging.{le_trans, not_le, has, not_there, nothing_wanted}
-use Rattle.mt_migrate.proofs.MarkerChanges.{Shows, prepared, switched, Begins, begins, takes_over, finishes, epoch_alone, seals, tag_same}
-use Rattle.mt_migrate.proofs.CopyChanges.{CopyPut, copies, the_marker, copy_row}
-use Rattle.mt_migrate.proofs.ReadFacts.{in_whole, rising_within, up_to_end, IsRowOf, members, all_taken}
-use Rattle.mt_migrate.proofs.ChunkLaws.{seen_is, KeptRow, KnownEntry, is_waiting, each_good, named_past, HasRead, epoch_filled, epoch_written}
+use Rattle.mt_migrate.specs.Chunks.{end_of, lesser}
+use Rattle.mt_migrate.specs.Moves.{past, next_rows, reading_of}
+use Rattle.mt_migrate.specs.Known.{behind, walk_facts, old_known, rows_known, epoch_known, kept_fact, kept_facts}
+use Rattle.mt_migrate.proofs.Merging.{le_trans, not_le}
+use Rattle.mt_migrate.proofs.ReadFacts.{in_whole, rising_within, up_to_end, IsRowOf}
+use Rattle.mt_migrate.proofs.ChunkLaws.{seen_is, KeptRow, KnownEntry}
 
 -- ---- lists of facts
 

@@ -1,5 +1,5 @@
 -- A marker is turned, or old is sealed: the pair stays sound, and clients see the same.
-use Rattle.std.proofs.Common.{◌≡◌, ◌≢◌, ◌⊎◌, ℕ, ◌+◌, ◌≤◌, Bool, true, false, cond, List, [], ◌∷◌, Option, Some, None, refl, sym, ap, ◌∙◌, subst, arith, inl, inr, bytes_eq, ◌==◌}
+use Rattle.std.proofs.Common.{◌≡◌, ◌≢◌, ℕ, ◌+◌, ◌≤◌, Bool, true, false, cond, List, [], ◌∷◌, Option, Some, None, refl, sym, ap, ◌∙◌, subst, arith, inl, inr, bytes_eq, ◌==◌}
 use Rattle.std.proofs.lemmas.Bool.{and_parts}
 use Rattle.std.proofs.lemmas.Bool.Decides.{nat_tests}
 use Rattle.mt_model.specs.declared.key.KeyPart.TheVariants.{Partition}
@@ -8,12 +8,12 @@ use Rattle.mt_model.specs.declared.value.Prop.{Prop}
 use Rattle.mt_model.specs.Key.{part_fault}
 use Rattle.mt_chain.specs.declared.row.Stored.{Stored}
 use Rattle.mt_chain.specs.declared.row.Put.{Put}
-use Rattle.mt_chain.specs.declared.row.Put.TheVariants.{Check, Insert, Replace, Delete}
+use Rattle.mt_chain.specs.declared.row.Put.TheVariants.{Insert, Replace}
 use Rattle.mt_chain.specs.Rows.{row_at}
-use Rattle.mt_chain.specs.Puts.{row_key, is_same_tag, has_tag, holds, unmet_from, next_tag}
+use Rattle.mt_chain.specs.Puts.{row_key, is_same_tag, has_tag, unmet_from, next_tag}
 use Rattle.mt_chain.specs.StoreCall.{Contents, sealed_of}
 use Rattle.mt_chain.proofs.KeyLaws.{text_false}
-use Rattle.mt_chain.proofs.PutLaws.{left_by, row_after, all_puts, each_held}
+use Rattle.mt_chain.proofs.PutLaws.{left_by, all_puts, each_held}
 use Rattle.mt_chain.proofs.JudgeLaws.{contents_after}
 use Rattle.mt_meta.specs.declared.marker.Phase.{Phase}
 use Rattle.mt_meta.specs.declared.marker.Phase.TheVariants.{UseOld, PreferOld, PreferNew}
@@ -22,13 +22,13 @@ use Rattle.mt_meta.specs.declared.marker.NewPhase.TheVariants.{Filling, UseNew}
 use Rattle.mt_meta.specs.declared.mark.Mark.TheVariants.{Live, Copy, Tomb}
 use Rattle.mt_meta.specs.Markers.{marker_key, marker_props, old_kind, new_kind, old_phase_of, new_phase_of}
 use Rattle.mt_meta.specs.Marks.{mark_of}
-use Rattle.mt_meta.specs.Logical.{Pair, OldState, NoOld, AtUseOld, AtPreferOld, AtPreferNew, BadOld, NewState, NoNew, AtFilling, AtUseNew, BadNew, old_says, new_says, old_state, new_state, old_at, new_at, old_state_at, new_state_at, from_old, from_new, filling_by, from_both, new_by, row_by, logical}
-use Rattle.mt_meta.specs.Sound.{IsOldMarker, IsNewMarker, IsOldRow, IsEntry, HaveForms, IsCopyOrNone, IsKept, IsSound}
+use Rattle.mt_meta.specs.Logical.{Pair, OldState, NoOld, AtUseOld, AtPreferOld, AtPreferNew, BadOld, NewState, NoNew, AtFilling, AtUseNew, BadNew, old_says, new_says, old_state, new_state, old_at, new_at, old_state_at, new_state_at, from_old, from_new, filling_by, from_both, new_by, logical}
+use Rattle.mt_meta.specs.Sound.{IsOldMarker, IsNewMarker, IsOldRow, IsEntry, IsCopyOrNone, IsKept, IsSound}
 use Rattle.mt_meta.specs.Modes.{Mode, Empty, AtOld, Prepared, Copying, Overlaid, Settled, NewOnly, Broken, mode_of, mode, rank, FitsMode, shown_in}
 use Rattle.mt_meta.specs.declared.fact.Keys.{Keys}
 use Rattle.mt_meta.specs.declared.fact.Keys.TheVariants as keys
 use Rattle.mt_meta.specs.declared.fact.Fact.{Fact}
-use Rattle.mt_meta.specs.Facts.{InKeys, KnowsRow, KnowsEpoch, Exact, Grows, is_begun, is_marked, is_filling, is_prefer_new}
+use Rattle.mt_meta.specs.Facts.{InKeys, KnowsRow, KnowsEpoch, Exact, Grows, is_begun, is_marked, is_filling}
 use Rattle.mt_meta.specs.Steps.{StepIn, with_old, with_new}
 use Rattle.mt_meta.proofs.Rules.{old_read, new_read, key_cases, to_modes, from_modes}
 use Rattle.mt_meta.proofs.ShownLaws.{logical_in}

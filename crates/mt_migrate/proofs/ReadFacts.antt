@@ -1,13 +1,13 @@
 -- What the rows of a range say of the store, up to where the reading ends.
-use Rattle.std.proofs.Common.{◌≡◌, ◌≢◌, ◌⊎◌, ℕ, zero, suc, ◌+◌, ◌<◌, ◌≤◌, Bool, true, false, cond, ◌&&◌, ◌||◌, nat_lt, List, [], ◌∷◌, map, length, take, filter, Option, Some, None, refl, sym, ap, subst, ◌∙◌, arith, inl, inr, bytes_eq, Less, Equal, Greater, Ordering}
+use Rattle.std.proofs.Common.{◌≡◌, ℕ, zero, suc, ◌≤◌, Bool, true, false, cond, ◌&&◌, nat_lt, List, [], ◌∷◌, map, length, take, filter, Option, Some, None, refl, sym, ap, subst, ◌∙◌, arith, inl, inr, bytes_eq, Less, Equal}
 use Rattle.std.specs.Prelude.{option_map}
 use Rattle.std.proofs.lemmas.Bool.{and_parts}
 use Rattle.std.proofs.lemmas.Bool.Decides.{nat_tests}
 use Rattle.std.specs.List.{AllByRecursion}
 use Rattle.std.specs.List.Sorted.{IsStrictlySortedBy}
-use Rattle.std.specs.Ordering.{nat_cmp, is_lt, is_le, is_eq, ordering_reverse, eq_by_cmp}
+use Rattle.std.specs.Ordering.{is_lt, is_le, is_eq}
 use Rattle.std.specs.Cmp.{tied_itself}
-use Rattle.std.specs.Cmp.Lexicographic.{slice_cmp, nat_list_cmp_total, texts_ties}
+use Rattle.std.specs.Cmp.Lexicographic.{nat_list_cmp_total, texts_ties}
 use Rattle.std.specs.FinMap.Entries.{below_all}
 use Rattle.mt_model.specs.declared.key.Key.{Key}
 use Rattle.mt_model.specs.Key.{key_cmp}
@@ -18,7 +18,6 @@ use Rattle.mt_chain.specs.Rows.{Rows, RisingRows, key_at, are_rising, row_at, ro
 use Rattle.mt_chain.proofs.KeyLaws.{is_tied, text_true, text_same}
 use Rattle.mt_chain.proofs.OrderLaws.{lt_less, key_less}
 use Rattle.mt_chain.proofs.SearchLaws.{head_below, rest_rising}
-use Rattle.mt_migrate.specs.declared.state.Reading.{Reading}
 use Rattle.mt_migrate.specs.Chunks.{last_key, end_of}
 use Rattle.mt_migrate.proofs.Merging.{text_cmp, le_apart}
 

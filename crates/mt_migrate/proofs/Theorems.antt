@@ -1,5 +1,5 @@
 -- The laws of a migrator, in the words of its definitions.
-use Rattle.std.proofs.Common.{◌≡◌, ◌≢◌, ℕ, ◌<◌, Bool, true, false, cond, not, List, [], ◌∷◌, Option, Some, None, refl, sym, ap, subst, ◌∙◌}
+use Rattle.std.proofs.Common.{◌≡◌, ◌≢◌, ℕ, ◌<◌, Bool, true, List, ◌∷◌, Option, Some, None, sym, ap, subst, ◌∙◌}
 use Rattle.std.specs.Prelude.{Ok, is_some}
 use Rattle.mt_model.specs.declared.tag.Tag.{Tag}
 use Rattle.mt_chain.specs.declared.row.Stored.{Stored}

@@ -1,5 +1,5 @@
 -- The migrator: what it asks in each state, where a reply leads, and what it keeps whatever the stores reply.
-use Rattle.std.specs.Prelude.{◌≡◌, ℕ, ◌≤◌, ◌==◌, Bool, true, List, [], ◌∷◌, length, Option, Some, None, Result, Ok, Err, if◌then◌else◌}
+use Rattle.std.specs.Prelude.{◌≡◌, ℕ, ◌≤◌, ◌==◌, true, List, [], ◌∷◌, length, Option, Some, None, Result, Ok, Err, if◌then◌else◌}
 use Rattle.std.specs.List.{AllByRecursion}
 use Rattle.mt_model.specs.declared.text.NoMemory.{NoMemory}
 use Rattle.mt_model.specs.declared.tag.Tag.{Tag}

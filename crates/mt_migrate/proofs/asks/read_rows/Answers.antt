@@ -1,5 +1,4 @@
-use Rattle.std.proofs.Common.{ℕ, List, Option, Some, sym, subst}
-use Rattle.mt_chain.specs.declared.query.RkFrom.{RkFrom}
+use Rattle.std.proofs.Common.{ℕ, List, Some, sym, subst}
 use Rattle.mt_chain.specs.StoreCall.{CanQuery}
 use Rattle.mt_migrate.proofs.ReadLaws.{can_read_from}
 use Rattle.mt_migrate.proofs.asks.read_rows.Goals as goal

@@ -1,4 +1,4 @@
-use Rattle.std.proofs.Common.{◌≡◌, ◌∷◌, sym, subst, ap, ◌∙◌, arith}
+use Rattle.std.proofs.Common.{◌∷◌, sym, subst, ap, ◌∙◌, arith}
 use Rattle.mt_chain.specs.Puts.{CanApply}
 use Rattle.mt_chain.specs.declared.row.Put.TheVariants as put
 use Rattle.mt_migrate.proofs.Merging.{can_write}

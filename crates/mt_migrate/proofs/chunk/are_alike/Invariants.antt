@@ -1,6 +1,4 @@
 use Rattle.std.proofs.Common.{◌≡◌, filter, length}
-use Rattle.std.specs.Cmp.Lexicographic.{pointwise}
-use Rattle.mt_model.specs.contracts.value.PropPartialEq.TheImpl as prop_eq
 use Rattle.mt_model.specs.Props.{is_visible}
 use Rattle.mt_migrate.specs.Chunks.{are_alike}
 use Rattle.mt_migrate.proofs.chunk.are_alike.Given as goal

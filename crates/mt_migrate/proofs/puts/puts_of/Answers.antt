@@ -1,8 +1,7 @@
-use Rattle.std.proofs.Common.{◌≡◌, ◌∷◌, ◌++◌, [], List, ap, sym, subst, ◌∙◌, arith}
-use Rattle.mt_chain.specs.declared.row.Put.{Put}
+use Rattle.std.proofs.Common.{◌∷◌, ◌++◌, [], List, ap, sym, subst, ◌∙◌}
 use Rattle.mt_chain.specs.declared.row.StoredRow.{StoredRow}
 use Rattle.mt_migrate.specs.Chunks.{put_at, rows_past, with_put}
-use Rattle.mt_migrate.proofs.Merging.{Merged, merge_start, merge_more, merge_end, merge_less, pushed}
+use Rattle.mt_migrate.proofs.Merging.{Merged, merge_start, merge_more, pushed}
 use Rattle.mt_migrate.proofs.puts.puts_of.Goals as goal
 
 pub loop-rk-init : goal.loop-rk-init
