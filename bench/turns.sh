@@ -2,7 +2,8 @@
 # Counts the turns a second at a turnstile, for 1, 2 and 4 threads that do nothing else, and prints them beside the
 # kit's Mutex over the same value, taken in the same run: the third number is how many times the mutex's turns they
 # are. The value is a count of 8 bytes, and then one of 64 and of 4,096 bytes, since a turn moves the value twice (a
-# mutex moves nothing: it is measured over 8 bytes and over 4,096).
+# mutex moves nothing: it is measured over 8 bytes and over 4,096). Each number is the best of five runs, which
+# take turns with one another.
 # It builds a small program outside the repository; the first build takes some minutes. Other work on the machine
 # shows in every number, and in the ratios less.
 set -eu
@@ -251,20 +252,22 @@ import subprocess, sys
 
 TURNS = 2_000_000
 
-def rate(kind, threads):
-    best = 0
-    for _ in range(3):
-        out = subprocess.run([sys.argv[1], kind, str(threads), str(TURNS // threads)], capture_output=True, check=True).stdout
-        made, each = map(int, out.split())
-        assert made == TURNS // threads * threads
-        best = max(best, each)
-    return best
+KINDS = ("mutex8", "mutex4096", "turnstile8", "turnstile64", "turnstile4096")
+
+def once(kind, threads):
+    out = subprocess.run([sys.argv[1], kind, str(threads), str(TURNS // threads)], capture_output=True, check=True).stdout
+    made, rate = map(int, out.split())
+    assert made == TURNS // threads * threads
+    return rate
 
 print("threads  bytes  turns a second  mutex's turns  times the mutex's")
 for threads in (1, 2, 4):
-    mutex = {8: rate("mutex8", threads), 4096: rate("mutex4096", threads)}
+    best = dict.fromkeys(KINDS, 0)
+    for _ in range(5):
+        for kind in KINDS:
+            best[kind] = max(best[kind], once(kind, threads))
     for size in (8, 64, 4096):
-        turns = rate(f"turnstile{size}", threads)
-        beside = mutex[4096 if size == 4096 else 8]
+        turns = best[f"turnstile{size}"]
+        beside = best["mutex4096" if size == 4096 else "mutex8"]
         print(f"{threads:7} {size:6} {turns:15} {beside:14} {turns / beside:18.2f}", flush=True)
 PY

@@ -19,7 +19,7 @@ use Rattle.mt_turn.proofs.Seats.{item_there, weaken, at_last, All_right, where_o
 use Rattle.mt_turn.proofs.TurnLaws.{word_is, word_set, apart_of, finds_window}
 
 module _ {E B : Type 0} (base_after : B → E → B) where
-  -- a pass that is told the later of two windows, of which one is its own, sees that one
+  -- a pass that hears of the later of two windows, of which one is its own, sees that one
   pub met : (mine theirs : Option (Window E B)) (x y : Window E B) → IsLater base_after mine theirs x → IsLater base_after theirs (Some x) y → y ≡ x
   met mine theirs x y first second = ⊎_elim own told second.one
     where
@@ -83,16 +83,16 @@ module _ {W E B X F : Type 0} (window : W → Window E B) (base_after : B → E 
       (where_one_changes (Known k.whole k.log k.value k.held k.holder k.top) s.views id u knows (λ j o ne at'. k.seats j o at'))
       (differ_still s.views id v u at same k.callers) (separated_still apart s.views id u fresh k.apart_are)
 
-  -- ---- what was told is compared
+  -- ---- what was heard is compared
 
-  -- the later of the last window seen and the one told
+  -- the later of the last window seen and the one heard of
   record Later (whole : Window E B) (log : List (Window E B)) (top : ℕ) (v : V) : Type 0 where
     pub x : Window E B
-    pub later : IsLater base_after (last_of v.seen) v.told x
+    pub later : IsLater base_after (last_of v.seen) v.heard x
     pub last : Last whole log top v x
     pub order : InOrder base_after (v.seen ++ x ∷ [])
 
-  later_of : (whole : Window E B) (log : List (Window E B)) (top : ℕ) (v : V) (mine theirs : Window E B) → last_of v.seen ≡ Some mine → v.told ≡ Some theirs → InOrder base_after log → InOrder base_after v.seen
+  later_of : (whole : Window E B) (log : List (Window E B)) (top : ℕ) (v : V) (mine theirs : Window E B) → last_of v.seen ≡ Some mine → v.heard ≡ Some theirs → InOrder base_after log → InOrder base_after v.seen
       → Last whole log top v mine → WasHad base_after whole log theirs → Later whole log top v
   later_of whole log top v mine theirs is told in_log in_order last was = ⊎_elim stays goes (one_follows base_after log mine theirs in_log last.was.had was.had)
     where
@@ -122,11 +122,11 @@ module _ {W E B X F : Type 0} (window : W → Window E B) (base_after : B → E 
             order = at theirs f;
           }
 
-  pub looks : (slots id : ℕ) (m : M) → is_some (last_of m.0.seen) ≡ true → is_some m.0.told ≡ true → Allows Rule slots id m 0 (λ n. n) (looked base_after (step slots 0 0 0 none) m)
+  pub looks : (slots id : ℕ) (m : M) → is_some (last_of m.0.seen) ≡ true → is_some m.0.heard ≡ true → Allows Rule slots id m 0 (λ n. n) (looked base_after (step slots 0 0 0 none) m)
   looks slots id m begun heard s k wide at fits =
       let q = k.seats id m.0 at in
       let mine = item_there (last_of m.0.seen) begun in
-      let theirs = item_there m.0.told heard in
+      let theirs = item_there m.0.heard heard in
       let l = later_of k.whole k.log k.top m.0 mine.0 theirs.0 mine.1 theirs.1 k.order q.order (subst (λ o. IfSome o (Last k.whole k.log k.top m.0)) mine.1 q.seen) (subst (λ o. IfSome o (WasHad base_after k.whole k.log)) theirs.1 q.heard) in
       let u = sees m.0 l.x in (
         u,

@@ -281,7 +281,7 @@ module _ {W E B X F : Type 0} (window : W → Window E B) (base_after : B → E 
                 record {
                   order = in_order;
                   seen = at_last (Last whole log k.top v') v.seen (window u) (now_last whole (window u) log k.top v' had part);
-                  heard = weaken (WasHad base_after k.whole k.log) (WasHad base_after whole log) (λ x was. was_still k.whole x k.log (window u) goes.more was) v.told q.heard;
+                  heard = weaken (WasHad base_after k.whole k.log) (WasHad base_after whole log) (λ x was. was_still k.whole x k.log (window u) goes.more was) v.heard q.heard;
                   fixed_is = q.fixed_is;
                   turn = λ t. absurd (false≢true t);
                   low = q.low;
@@ -298,7 +298,7 @@ module _ {W E B X F : Type 0} (window : W → Window E B) (base_after : B → E 
                         low = λ n z. All-append (λ e. caller_of e ≤ k.top) l.was.rest goes.more (l.low n z) (λ i d lt. subst (λ x. x ≤ k.top) (sym (goes.own i d lt)) (q.low num));
                       })
                       (last_of o.seen) p.seen;
-                  heard = weaken (WasHad base_after k.whole k.log) (WasHad base_after whole log) (λ x was. was_still k.whole x k.log (window u) goes.more was) o.told p.heard;
+                  heard = weaken (WasHad base_after k.whole k.log) (WasHad base_after whole log) (λ x was. was_still k.whole x k.log (window u) goes.more was) o.heard p.heard;
                   fixed_is = p.fixed_is;
                   turn = λ t. absurd (ne ((p.turn t).0 ∙ sym held.0));
                   low = p.low;

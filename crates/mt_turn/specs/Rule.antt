@@ -39,7 +39,7 @@ module _ {W E B X F : Type 0} (base_after : B → E → B) (fixed : W → X) (ca
   pub record Knows (about : W) (whole : Window E B) (log : List (Window E B)) (value : W) (held holder top j : ℕ) (v : View W E B X F) : Type 0 where
     pub order : InOrder base_after v.seen
     pub seen : IfSome (last_of v.seen) (IsLast base_after caller_of whole log top v)
-    pub heard : IfSome v.told (WasHad base_after whole log)
+    pub heard : IfSome v.heard (WasHad base_after whole log)
     pub fixed_is : v.numbered ≡ true → v.fixed ≡ Some (fixed about)
     pub turn : v.turn ≡ true → (j ≡ holder) × (held ≡ 1) × (v.numbered ≡ true) × (v.last ≡ Some value)
     pub low : v.numbered ≡ true → v.caller ≤ top

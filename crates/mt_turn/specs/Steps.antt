@@ -26,6 +26,6 @@ module _ {W E B X F : Type 0} (window : W → Window E B) (base_after : B → E 
   left facts st m r n = (w : W) → m.1 ≡ (0, Some w) ∷ [] → (n ≡ (after_give window calls facts m.0 w, [])) × InOrder base_after (after_give window calls facts m.0 w).seen
 
 module _ {W E B X F : Type 0} (base_after : B → E → B) where
-  -- the window that was told is compared with the last one seen, and the later of the two is seen
+  -- the window that was heard of is compared with the last one seen, and the later of the two is seen
   abbrev pub looked : Step (Option W) → Seated W E B X F → ℕ → Seated W E B X F → Type 0
-  looked st m r n = (x : Window E B) × (n ≡ (sees m.0 x, m.1)) × IsLater base_after (last_of m.0.seen) m.0.told x × InOrder base_after (sees m.0 x).seen
+  looked st m r n = (x : Window E B) × (n ≡ (sees m.0 x, m.1)) × IsLater base_after (last_of m.0.seen) m.0.heard x × InOrder base_after (sees m.0 x).seen

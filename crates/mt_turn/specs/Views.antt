@@ -12,7 +12,7 @@ hand false = []
 module _ {W E B X F : Type 0} where
   -- what a pass tells another: the windows that it has seen, and nothing else
   abbrev pub note : List (Window E B) → View W E B X F
-  note seen = record { numbered = false; caller = 0; count = 0; fixed = None; seen = seen; start = []; told = None; turn = false; last = None; facts = []; made = 0 }
+  note seen = record { numbered = false; caller = 0; count = 0; fixed = None; seen = seen; start = []; heard = None; turn = false; last = None; facts = []; made = 0 }
 
   -- a pass after one was split off from it
   abbrev pub after_split : View W E B X F → View W E B X F
@@ -20,20 +20,20 @@ module _ {W E B X F : Type 0} where
 
   -- the pass that was split off: it has the next number, has seen as much, and has no facts
   abbrev pub split_off : View W E B X F → View W E B X F
-  split_off v = record { numbered = true; caller = v.count + 1; count = 0; fixed = v.fixed; seen = v.seen; start = v.seen; told = None; turn = false; last = v.last; facts = []; made = 0 }
+  split_off v = record { numbered = true; caller = v.count + 1; count = 0; fixed = v.fixed; seen = v.seen; start = v.seen; heard = None; turn = false; last = v.last; facts = []; made = 0 }
 
   -- one more window is seen
   abbrev pub sees : View W E B X F → Window E B → View W E B X F
-  sees v x = record v { seen = v.seen ++ x ∷ []; told = None }
+  sees v x = record v { seen = v.seen ++ x ∷ []; heard = None }
 
-  -- another's last window is told, and not yet compared
+  -- another's last window is heard of, and not yet compared
   abbrev pub hears : View W E B X F → View W E B X F → View W E B X F
-  hears v other = record v { told = last_of other.seen }
+  hears v other = record v { heard = last_of other.seen }
 
 module _ {W E B X F : Type 0} (window : W → Window E B) (fixed : W → X) where
   -- the first pass of a turnstile: caller 0, which has seen the value's window
   abbrev pub first_pass : W → View W E B X F
-  first_pass w = record { numbered = true; caller = 0; count = 0; fixed = Some (fixed w); seen = window w ∷ []; start = window w ∷ []; told = None; turn = false; last = Some w; facts = []; made = 0 }
+  first_pass w = record { numbered = true; caller = 0; count = 0; fixed = Some (fixed w); seen = window w ∷ []; start = window w ∷ []; heard = None; turn = false; last = Some w; facts = []; made = 0 }
 
 module _ {W E B X F : Type 0} (window : W → Window E B) where
   -- a pass that took this value

@@ -21,7 +21,7 @@ pub struct Pass<W, E, B, X, F> {
     pub ghost number: { (seat.me.0.numbered ≡ true) × (seat.me.0.caller ≡ caller) × (seat.me.0.count ≡ count) },
     pub ghost slots: { seat.me.1 ≡ hand seat.me.0.turn },
     pub ghost begun: { is_some (last_of seat.me.0.seen) ≡ true },
-    pub ghost heard: { seat.me.0.told ≡ None },
+    pub ghost heard: { seat.me.0.heard ≡ None },
 }
 
 /// A pass of a turnstile over W.

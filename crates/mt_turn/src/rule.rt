@@ -57,7 +57,7 @@ impl<W: Journaled, N: Picked<W::Fact>> Play<Option<W>, ViewOf<W>> for Leave<W, N
     ghost then = { left W.window W.base_after W.calls N.facts };
 }
 
-/// Reads the word, to compare what was told with what was seen.
+/// Reads the word, to compare what was heard with what was seen.
 pub(crate) struct Look<W> {
     of: PhantomData<W>,
 }
@@ -84,7 +84,7 @@ impl<W, E, B, X, F> Split<View<W, E, B, X, F>> for Note {
     ghost right = { λ v. note v.seen };
 }
 
-/// A note or a pass is given up, and its last window told.
+/// A note or a pass is given up, and its last window heard of.
 pub(crate) struct Tell;
 
 impl<W, E, B, X, F> Join<View<W, E, B, X, F>> for Tell {

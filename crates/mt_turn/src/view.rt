@@ -23,8 +23,8 @@ pub struct View<W, E, B, X, F> {
     pub seen: LinkedList<Window<E, B>>,
     /// Those that it had seen when it was made.
     pub start: LinkedList<Window<E, B>>,
-    /// A window that another pass tells it, until it is compared. None between calls.
-    pub told: Option<Window<E, B>>,
+    /// The last window of another pass, until it is compared with its own. None between calls.
+    pub heard: Option<Window<E, B>>,
     /// It holds the turn.
     pub turn: bool,
     /// The value that it, or the pass that it was split off from, took last; before the first take, that at `new`.

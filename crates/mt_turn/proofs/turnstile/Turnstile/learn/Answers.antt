@@ -21,4 +21,4 @@ pub returns-clause-later : goal.returns-clause-later
 returns-clause-later g c =
     let did = c.load.ensures.2 in
     let told = c.join_seat.ensures.2 in
-    (did.0, subst (λ m. IsLater g.W.Journaled.base_after (last_of m.0.seen) m.0.told did.0) told did.2, ap (λ m. m.0) did.1 ∙ ap (λ m. sees m.0 did.0) told)
+    (did.0, subst (λ m. IsLater g.W.Journaled.base_after (last_of m.0.seen) m.0.heard did.0) told did.2, ap (λ m. m.0) did.1 ∙ ap (λ m. sees m.0 did.0) told)
