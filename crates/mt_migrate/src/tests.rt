@@ -107,24 +107,39 @@ fn step(alloc: Global, migrator: &mut Migrator, stores: &mut Stores) -> Result<O
     Ok(Outcome { progress, told })
 }
 
-/// What at most so many steps tell, and how many they are.
-fn run(
-    alloc: Global,
-    migrator: &mut Migrator,
-    stores: &mut Stores,
-    most: u32,
-) -> Result<(u32, String), Fail>
-    requires { GoesOn migrator.old }
-{
+/// What the steps of a migrator tell until it is done, and how many they are.
+fn run(alloc: Global, stores: &mut Stores) -> Result<(u32, String), Fail> {
+    let mut migrator = Migrator::new(alloc);
     let mut text = String::new(alloc);
-    for calls in 0..most {
-        let came = step(alloc, migrator, stores)?;
+    for calls in 0..100 {
+        let came = step(alloc, &mut migrator, stores)?;
         text.push_str(came.told.as_str())?;
         if came.progress == MoveProgress::Done {
             return Ok((calls + 1, text));
         }
     }
-    Ok((most, text))
+    Err(Fail::new("not done"))
+}
+
+/// What so many steps tell of a migrator that is not done by then.
+fn tells(
+    alloc: Global,
+    migrator: &mut Migrator,
+    stores: &mut Stores,
+    steps: u32,
+) -> Result<String, Fail>
+    requires { GoesOn migrator.old }
+    ensures { IfOk result (λ text. GoesOn migrator.new) }
+{
+    let mut text = String::new(alloc);
+    for _ in 0..steps {
+        let came = step(alloc, migrator, stores)?;
+        text.push_str(came.told.as_str())?;
+        if came.progress == MoveProgress::Done {
+            return Err(Fail::new("done too early"));
+        }
+    }
+    Ok(text)
 }
 
 /// The rows of the partition `p` in a store.
@@ -148,8 +163,7 @@ fn count_rows(alloc: Global, keeper: &mut MemKeeper) -> Result<usize, Fail> {
 fn moves_one_row(rt: HostRuntime) -> Result<(), Fail> {
     let alloc = rt.alloc();
     let mut stores = stores_of(alloc, 1)?;
-    let mut migrator = Migrator::new(alloc);
-    let (calls, told) = run(alloc, &mut migrator, &mut stores, 100)?;
+    let (calls, told) = run(alloc, &mut stores)?;
     assert!(rt; calls == 18, "{calls}");
     assert!(rt; told.as_str() == "0.3 1.1 1.1 1.2 0.4 1.3 ", "{told}");
     Ok(())
@@ -160,28 +174,29 @@ fn counts_the_calls_of_chunks(rt: HostRuntime) -> Result<(), Fail> {
     let alloc = rt.alloc();
     for (count, want) in [(0, 3), (49, 18), (50, 23), (99, 23), (100, 28)] {
         let mut stores = stores_of(alloc, count)?;
-        let mut migrator = Migrator::new(alloc);
-        let (calls, _) = run(alloc, &mut migrator, &mut stores, 100)?;
+        let (calls, _) = run(alloc, &mut stores)?;
         assert!(rt; calls == want, "{count} rows: {calls}");
     }
     Ok(())
+}
+
+/// What a migrator tells whose partition was taken over after its read of new.
+fn overtaken(alloc: Global, stores: &mut Stores) -> Result<String, Fail> {
+    let mut first = Migrator::new(alloc);
+    let mut text = tells(alloc, &mut first, stores, 7)?;
+    let mut second = Migrator::new(alloc);
+    text.push_str(tells(alloc, &mut second, stores, 4)?.as_str())?;
+    text.push_str(tells(alloc, &mut first, stores, 1)?.as_str())?;
+    Ok(text)
 }
 
 #[test]
 fn stops_a_migrator_whose_epoch_is_over(rt: HostRuntime) -> Result<(), Fail> {
     let alloc = rt.alloc();
     let mut stores = stores_of(alloc, 1)?;
-    let mut first = Migrator::new(alloc);
-    let (_, begun) = run(alloc, &mut first, &mut stores, 7)?;
-    assert!(rt; begun.as_str() == "0.3 1.1 ", "{begun}");
-    let mut second = Migrator::new(alloc);
-    let (_, taken) = run(alloc, &mut second, &mut stores, 4)?;
-    assert!(rt; taken.as_str() == "1.2 ", "{taken}");
-    let (_, late) = run(alloc, &mut first, &mut stores, 1)?;
-    assert!(rt; late.as_str() == "unmet at 0 ", "{late}");
-    assert!(rt;
-        count_rows(alloc, &mut stores.new)? == 1,
-        "new has more than its marker"
-    );
+    let told = overtaken(alloc, &mut stores)?;
+    assert!(rt; told.as_str() == "0.3 1.1 1.2 unmet at 0 ", "{told}");
+    let rows = count_rows(alloc, &mut stores.new)?;
+    assert!(rt; rows == 1, "{rows}");
     Ok(())
 }
