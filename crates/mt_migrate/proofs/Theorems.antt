@@ -1,6 +1,6 @@
 -- The laws of a migrator, in the words of its definitions.
-use Rattle.std.proofs.Common.{◌≡◌, ◌≢◌, ℕ, ◌<◌, Bool, true, List, ◌∷◌, Option, Some, None, sym, ap, subst, ◌∙◌}
-use Rattle.std.specs.Prelude.{Ok, is_some}
+use Rattle.std.proofs.Common.{◌≡◌, ◌≢◌, ℕ, ◌<◌, Bool, List, ◌∷◌, Option, Some, None, sym, ap, subst, ◌∙◌}
+use Rattle.std.specs.Prelude.{Ok}
 use Rattle.mt_model.specs.declared.tag.Tag.{Tag}
 use Rattle.mt_chain.specs.declared.row.Stored.{Stored}
 use Rattle.mt_chain.specs.declared.row.Put.TheVariants as put
@@ -12,9 +12,8 @@ use Rattle.mt_chain.specs.StoreCall.{IsContents}
 use Rattle.mt_chain.proofs.PutLaws.{each_held}
 use Rattle.mt_chain.proofs.JudgeLaws.{was_done}
 use Rattle.mt_meta.specs.Markers.{marker_key}
-use Rattle.mt_meta.specs.Logical.{Pair, old_at, new_at, new_state_at}
+use Rattle.mt_meta.specs.Logical.{Pair, new_at}
 use Rattle.mt_meta.specs.Sound.{IsSound}
-use Rattle.mt_meta.specs.Facts.{is_use_new}
 use Rattle.mt_meta.specs.Steps.{AllHold, with_new, PairMeans}
 use Rattle.mt_migrate.specs.declared.migrator.MoveProgress.{MoveProgress}
 use Rattle.mt_migrate.specs.declared.state.Copying.{Copying}
@@ -22,7 +21,7 @@ use Rattle.mt_migrate.specs.declared.state.State.{State}
 use Rattle.mt_migrate.specs.declared.state.State.TheVariants as at
 use Rattle.mt_migrate.specs.Moves.{Asks, Absorbs, MigratorFits}
 use Rattle.mt_migrate.specs.Known.{state_facts}
-use Rattle.mt_migrate.specs.MoverSteps.{MoverStep}
+use Rattle.mt_migrate.specs.MoverSteps.{MoverStep, IsMoved}
 use Rattle.mt_migrate.proofs.MarkerChanges.{tagged}
 use Rattle.mt_migrate.proofs.MoverLaw.{mover_law}
 
@@ -31,11 +30,7 @@ pub steps_are_steps_of_an_actor : (state to : State) (a : StoreAsk) (r : StoreRe
     → AllHold p retired (state_facts state) → Asks state a → PairMeans a r p q → Absorbs state r (Ok said) to → MoverStep state to retired p q
 steps_are_steps_of_an_actor = mover_law
 
--- a migrator is done only where old is sealed and each of its partitions is in new alone
-pub record IsMoved (p : Pair) : Type 0 where
-  pub sealed : p.old.sealed ≡ true
-  pub moved : (pk : List ℕ) → is_some (old_at p pk marker_key) ≡ true → is_use_new (new_state_at p pk) ≡ true
-
+-- a migrator is done only there
 pub done_is_moved : (p : Pair) (retired : Bool) → AllHold p retired (state_facts at.Done) → IsMoved p
 done_is_moved p retired know = record { sealed = know.0.sealed; moved = λ pk there. know.0.moved pk tt there }
 
