@@ -12,3 +12,4 @@ mod RouteLaws
 mod SpellLaws
 mod TalkLaws
 mod TurnLaws
+mod Theorems
