@@ -16,7 +16,7 @@ const JSON: Line<'static> = Line("Content-Type", "application/json");
 const TAG: Line<'static> = Line("ETag", "W/\"0.2\"");
 
 fn field(alloc: Global, line: Line<'_>) -> Result<ReplyField, Fail>
-    ensures { IfOk result (λ f. f.name ≡ line.0.now) }
+    ensures { IfOk result (λ f. f.name ≡ line.entry.0.now) }
 {
     Ok(ReplyField {
         name: Text::of(alloc, line.0)?,

@@ -1,4 +1,4 @@
-use Rattle.std.proofs.Common.{◌≡◌, [], ap, ◌∙◌}
+use Rattle.std.proofs.Common.{[], ap, ◌∙◌}
 use Rattle.std.specs.Prelude.{unwrap_or}
 use Rattle.http.specs.StatusCode.{reason_phrase}
 use Rattle.mt_http_out.specs.Rendering.{phrase_of}
