@@ -133,7 +133,7 @@ fn fields_size(fields: &[ReplyField]) -> Option<usize>
 }
 
 /// Room for the reply, where its size is one that memory is counted in.
-fn size(reply: &Reply) -> Option<usize>
+fn room_for(reply: &Reply) -> Option<usize>
     requires { IsReply reply.now }
     ensures { IfSome result (λ n. length (bytes_of reply.now) ≤ n) }
 {
@@ -152,7 +152,7 @@ pub fn render(reply: &Reply, into: &mut Vec<u8>) -> Result<(), NoMemory>
     ensures ok { OnOk result (into.new.items ≡ into.old.items ++ bytes_of reply.now) }
     ensures err { OnErr result (into.new.items ≡ into.old.items) }
 {
-    let Some(size) = size(reply) else {
+    let Some(size) = room_for(reply) else {
         return Err(NoMemory);
     };
     into.reserve(size)?;

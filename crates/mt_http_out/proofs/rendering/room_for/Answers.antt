@@ -1,7 +1,7 @@
 use Rattle.std.proofs.Common.{◌≡◌, ◌+◌, length, subst, arith}
 use Rattle.mt_http_out.specs.Rendering.{field_lines}
 use Rattle.mt_http_out.proofs.ReplyLaws.{reply_fits, sum_fits}
-use Rattle.mt_http_out.proofs.rendering.size.Goals as goal
+use Rattle.mt_http_out.proofs.rendering.room_for.Goals as goal
 
 pub returns : goal.returns
 returns c =
