@@ -1,5 +1,5 @@
 -- The query of one partition: where it is, what it asks there, and how it moves with each reply.
-use Rattle.std.specs.Prelude.{◌≡◌, ◌×◌, ℕ, Bool, true, false, List, [], ◌∷◌, ◌++◌, Option, Some, None, Result, Ok, Err}
+use Rattle.std.specs.Prelude.{◌≡◌, ℕ, Bool, true, false, List, [], ◌∷◌, ◌++◌, Option, Some, None, Result, Ok, Err}
 use Rattle.mt_model.specs.declared.text.NoMemory.{NoMemory}
 use Rattle.mt_filter.specs.declared.filter.Filter.{Filter}
 use Rattle.mt_chain.specs.declared.row.StoredRow.{StoredRow}

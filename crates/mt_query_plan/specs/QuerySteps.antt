@@ -1,5 +1,5 @@
 -- What a step of a query does to a sound pair of stores.
-use Rattle.std.specs.Prelude.{◌≡◌, ◌×◌, ℕ, Bool, List, Option}
+use Rattle.std.specs.Prelude.{◌≡◌, ℕ, Bool, List, Option}
 use Rattle.mt_filter.specs.declared.filter.Filter.{Filter}
 use Rattle.mt_history.specs.declared.entry.What.TheVariants as what
 use Rattle.mt_history.specs.declared.model.Reply.TheVariants as reply

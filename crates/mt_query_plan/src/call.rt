@@ -5,7 +5,7 @@ ghost use Rattle.mt_query_plan.specs.Queries.{first_place, asks, Absorbs};
 
 use crate::place::{AfterOld, Place};
 use crate::range::read;
-use crate::saw::{Seen, see_new, see_old};
+use crate::saw::{Seen, see};
 use mt_chain::{Side, StoreAsk, StoreReply};
 use mt_filter::Filter;
 use mt_model::{Entities, NoMemory, Text};
@@ -32,9 +32,13 @@ pub struct QueryCall {
 }
 
 impl Model for QueryCall {
+    ghost use Rattle.std.specs.Coded.{codes};
+    ghost use Rattle.mt_filter.specs.contracts.filter.Filter as filters;
     ghost use Rattle.mt_query_plan.specs.Queries.{Call};
 
     ghost Value = { Call };
+
+    ghost coded = { Prim.hlevel (codes, filters.the_row.coded) };
 
     ghost view = { λ c. record { pk = c.pk; filter = c.filter; place = c.place } };
 }
@@ -103,10 +107,7 @@ impl QueryCall {
         let StoreReply::Found(found) = reply else {
             unreachable!()
         };
-        let seen = match &self.place {
-            Place::ReadOld => see_old(alloc, &self.pk, &self.filter, found)?,
-            Place::ReadNew { after } => { see_new(alloc, &self.pk, &self.filter, after, &found)? }
-        };
+        let seen = see(alloc, &self.pk, &self.filter, &self.place, found)?;
         match seen {
             Seen::Again => {
                 self.place = Place::ReadOld;

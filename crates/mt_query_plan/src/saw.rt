@@ -4,7 +4,7 @@ ghost use Rattle.mt_query_plan.specs.Queries.{lead_of, Sees};
 ghost use Rattle.mt_query_plan.specs.declared.place.Place.TheVariants as at;
 
 use crate::answer::answer;
-use crate::place::AfterOld;
+use crate::place::{AfterOld, Place};
 use mt_chain::{Found, StoredRows};
 use mt_filter::Filter;
 use mt_meta::{MARKER_KEY, NewPhase, Phase, new_phase, old_phase};
@@ -37,7 +37,7 @@ fn nothing(alloc: Global) -> Entities
 }
 
 /// What comes of a read of old. The one error is want of memory.
-pub(crate) fn see_old(
+fn see_old(
     alloc: Global,
     pk: &Text,
     filter: &Option<Filter>,
@@ -67,7 +67,7 @@ pub(crate) fn see_old(
 }
 
 /// What comes of a read of new, after what old showed. The one error is want of memory.
-pub(crate) fn see_new(
+fn see_new(
     alloc: Global,
     pk: &Text,
     filter: &Option<Filter>,
@@ -96,5 +96,21 @@ pub(crate) fn see_new(
             AfterOld::Closed => Ok(Seen::Answer(nothing(alloc))),
             AfterOld::Turned { .. } | AfterOld::Moved => Ok(Seen::Again),
         },
+    }
+}
+
+/// What comes of a read at that place. The one error is want of memory.
+pub(crate) fn see(
+    alloc: Global,
+    pk: &Text,
+    filter: &Option<Filter>,
+    place: &Place,
+    found: Found,
+) -> Result<Seen, NoMemory>
+    ensures { IfOk result (Sees pk.now filter.now (lead_of place.now found)) }
+{
+    match place {
+        Place::ReadOld => see_old(alloc, pk, filter, found),
+        Place::ReadNew { after } => see_new(alloc, pk, filter, after, &found),
     }
 }
