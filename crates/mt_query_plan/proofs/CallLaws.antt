@@ -1,6 +1,5 @@
 -- What a read comes to in memory is where the call then is.
-use Rattle.std.proofs.Common.{◌≡◌, ℕ, List, Option, ap, ◌∙◌, subst}
-use Rattle.mt_model.specs.declared.entity.Entity.{Entity}
+use Rattle.std.proofs.Common.{◌≡◌, ℕ, List, Option, ap, subst}
 use Rattle.mt_filter.specs.declared.filter.Filter.{Filter}
 use Rattle.mt_query_plan.specs.declared.place.AfterOld.{AfterOld}
 use Rattle.mt_query_plan.specs.declared.place.Place.TheVariants.{ReadNew}

@@ -4,5 +4,5 @@ pub mod FirstKeys
 pub mod WalkLaws
 pub mod CallLaws
 pub mod Showing
-pub mod Reads
+pub mod OnReads
 pub mod QueryLaw

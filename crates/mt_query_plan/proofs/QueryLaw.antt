@@ -11,21 +11,20 @@ use Rattle.mt_chain.specs.declared.query.Found.{Found}
 use Rattle.mt_chain.specs.declared.ask.StoreAsk.{StoreAsk}
 use Rattle.mt_chain.specs.declared.ask.StoreReply.{StoreReply}
 use Rattle.mt_chain.specs.declared.ask.StoreReply.TheVariants as reply
-use Rattle.mt_chain.specs.Rows.{key_at, row_in, shown, is_from, is_upto, is_within, rows_within}
+use Rattle.mt_chain.specs.Rows.{row_in, shown, is_from, is_upto, is_within, rows_within}
 use Rattle.mt_chain.specs.StoreCall.{Contents, IsFound}
-use Rattle.mt_chain.specs.Table.{Table, IsListing}
-use Rattle.mt_chain.proofs.KeyLaws.{text_true, text_same, text_differs}
+use Rattle.mt_chain.specs.Table.{IsListing}
+use Rattle.mt_chain.proofs.KeyLaws.{text_true, text_differs}
 use Rattle.mt_history.specs.Replies.{in_partition, is_matched, kept_if, selected}
 use Rattle.mt_meta.specs.declared.marker.Phase.{Phase}
 use Rattle.mt_meta.specs.declared.marker.Phase.TheVariants.{UseOld, PreferOld, PreferNew}
 use Rattle.mt_meta.specs.declared.marker.NewPhase.{NewPhase}
 use Rattle.mt_meta.specs.declared.marker.NewPhase.TheVariants.{Filling, UseNew}
 use Rattle.mt_meta.specs.declared.fact.Fact.{Fact}
-use Rattle.mt_meta.specs.declared.fact.Keys.TheVariants as keys
 use Rattle.mt_meta.specs.Markers.{marker_key, old_phase_of, new_phase_of}
 use Rattle.mt_meta.specs.Logical.{Pair, old_says, old_state, new_says, new_state, old_at, new_at, old_state_at, new_state_at, AtFilling, AtUseNew, row_by, logical}
 use Rattle.mt_meta.specs.Sound.{IsSound}
-use Rattle.mt_meta.specs.Facts.{AllPlain, Grows, KnowsTurned, is_prefer_new, is_filling}
+use Rattle.mt_meta.specs.Facts.{AllPlain, Grows, is_prefer_new, is_filling}
 use Rattle.mt_meta.specs.Steps.{AllHold, as_row, logical_table, with_old, with_new, PairMeans}
 use Rattle.mt_meta.proofs.Growth.{grows_self}
 use Rattle.mt_meta.proofs.Actors.{plain_apart}
@@ -36,12 +35,12 @@ use Rattle.mt_query_plan.specs.declared.place.Place.TheVariants.{ReadOld, ReadNe
 use Rattle.mt_query_plan.specs.declared.call.QueryProgress.{QueryProgress}
 use Rattle.mt_query_plan.specs.declared.call.QueryProgress.TheVariants as said
 use Rattle.mt_query_plan.specs.Ranges.{range_of, from_low, row_low, row_high}
-use Rattle.mt_query_plan.specs.Answers.{kept_row, shown_over, seen_over, read_table, IsAnswer}
+use Rattle.mt_query_plan.specs.Answers.{kept_row, shown_over, read_table, IsAnswer}
 use Rattle.mt_query_plan.specs.Queries.{Call, Lead, again, on, answered, asks, marker_says, saw_old, phase_says, saw_new, lead_of, Comes, Absorbs, place_facts}
 use Rattle.mt_query_plan.specs.QuerySteps.{Does, QueryStep}
 use Rattle.mt_query_plan.proofs.RangeLaws.{matched_within}
 use Rattle.mt_query_plan.proofs.Showing.{is_write_state, shows_old, shows_none, shows_fill, shows_new, shows_nothing}
-use Rattle.mt_query_plan.proofs.Reads.{in_whole, kept_shown, kept_within, marker_read, marked_new, closed_read, closed_none}
+use Rattle.mt_query_plan.proofs.OnReads.{in_whole, kept_shown, kept_within, marker_read, marked_new, closed_read, closed_none}
 
 -- what a step is shown to be, whatever else its actor knows
 record Stepped (pk : List ℕ) (test : Option Filter) (retired : Bool) (p : Pair) (progress : QueryProgress) (q : Pair) (to : Place) : Type 0 where

@@ -1,5 +1,5 @@
 -- What clients see of a partition of a sound pair, by its markers.
-use Rattle.std.proofs.Common.{◌≡◌, ◌≢◌, ℕ, Bool, true, false, ◌≤◌, List, Option, None, sym, ap, ◌∙◌, arith, inl, inr}
+use Rattle.std.proofs.Common.{◌≡◌, ◌≢◌, ℕ, Bool, true, false, ◌≤◌, List, Option, None, refl, sym, ap, ◌∙◌, arith, inl, inr}
 use Rattle.mt_chain.specs.declared.row.Stored.{Stored}
 use Rattle.mt_meta.specs.declared.marker.NewPhase.TheVariants.{Filling, UseNew}
 use Rattle.mt_meta.specs.Markers.{marker_key}
@@ -9,7 +9,7 @@ use Rattle.mt_meta.specs.Modes.{Mode, Empty, AtOld, Prepared, Copying, Overlaid,
 use Rattle.mt_meta.specs.Facts.{is_prefer_new, is_filling, is_use_new}
 use Rattle.mt_meta.proofs.Rules.{key_cases}
 use Rattle.mt_meta.proofs.ShownLaws.{logical_in}
-use Rattle.mt_meta.proofs.ModeLaws.{IsWhole, old_in, new_in, whole, says, early_shows, unsealed_empty, is_overlaid, filling_ranks, prefer_new_ranks, rank_from, use_new_rank}
+use Rattle.mt_meta.proofs.ModeLaws.{IsWhole, old_in, whole, says, early_shows, unsealed_empty, is_overlaid, filling_ranks, prefer_new_ranks, rank_from, use_new_rank}
 use Rattle.mt_query_plan.specs.Answers.{shown_over}
 
 -- a marker of old that lets clients write there

@@ -1,9 +1,9 @@
-use Rattle.std.proofs.Common.{◌≡◌, List, [], Option, option_map, option_copied, ap, sym, subst, ◌∙◌}
+use Rattle.std.proofs.Common.{List, [], Option, option_map, option_copied, ap, sym, subst, ◌∙◌}
 use Rattle.mt_model.specs.declared.entity.Entity.{Entity}
 use Rattle.mt_chain.specs.declared.row.StoredRow.{StoredRow}
 use Rattle.mt_history.proofs.ListingLaws.{keys_rise}
 use Rattle.mt_query_plan.specs.Answers.{wanted_over, with_key, first_row, rows_past, with_one}
-use Rattle.mt_query_plan.proofs.WalkLaws.{Walked, walk_start, walk_more, walk_end}
+use Rattle.mt_query_plan.proofs.WalkLaws.{Walked, walk_start, walk_more}
 use Rattle.mt_query_plan.proofs.answer.answer.Goals as goal
 
 pub loop-rk-init : goal.loop-rk-init

@@ -1,4 +1,4 @@
-use Rattle.std.proofs.Common.{◌≡◌, List, Option, IfOk, ap, sym, subst, ◌∙◌, option_copied}
+use Rattle.std.proofs.Common.{◌≡◌, Option, IfOk, sym, subst, ◌∙◌, option_copied}
 use Rattle.mt_model.specs.declared.entity.Entity.{Entity}
 use Rattle.mt_query_plan.proofs.ShownLaws.{choice_shows, with_tag}
 use Rattle.mt_query_plan.proofs.answer.shown.Goals as goal

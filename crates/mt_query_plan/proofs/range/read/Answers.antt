@@ -1,7 +1,6 @@
 use Rattle.std.proofs.Common.{ℕ, List, Some, sym, subst}
 use Rattle.mt_chain.specs.declared.query.Range.{Range}
 use Rattle.mt_chain.specs.StoreCall.{CanQuery}
-use Rattle.mt_meta.specs.Markers.{marker_key}
 use Rattle.mt_query_plan.specs.Ranges.{range_of}
 use Rattle.mt_query_plan.proofs.RangeLaws.{can_read}
 use Rattle.mt_query_plan.proofs.range.read.Goals as goal
