@@ -1,0 +1,13 @@
+//! A query of one partition as store calls: at most one read of each of two stores.
+#![tactic(auto)]
+
+mod answer;
+mod call;
+mod place;
+mod range;
+mod saw;
+#[cfg(test)]
+mod tests;
+
+pub use call::{QueryCall, QueryProgress};
+pub use place::{AfterOld, Place};
