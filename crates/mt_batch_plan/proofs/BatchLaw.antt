@@ -91,7 +91,7 @@ saw_is ops p names found are is =
     ap (λ rows. saw_old ops rows (row_in rows marker_key) found.sealed) is.named
     ∙ ap (λ m. saw_old ops (named_rows p.old.rows (partition_of ops) names) m found.sealed) (read_at p.old.rows (partition_of ops) names marker_key (marker_named ops names are))
 
-entries_is : (ops : List Op) (after : AfterOld) (p : Pair) (names : List (List ℕ)) (found : Found) → AreNames ops names → IsFound (record { pk = partition_of ops; named = names; range = None }) found p.new
+pub entries_is : (ops : List Op) (after : AfterOld) (p : Pair) (names : List (List ℕ)) (found : Found) → AreNames ops names → IsFound (record { pk = partition_of ops; named = names; range = None }) found p.new
     → saw_entries ops after found ≡ saw_new ops after (named_rows p.new.rows (partition_of ops) names) (option_map (shown marker_key) (new_at p (partition_of ops) marker_key))
 entries_is ops after p names found are is =
     ap (λ rows. saw_new ops after rows (row_in rows marker_key)) is.named

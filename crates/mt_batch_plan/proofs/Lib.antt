@@ -15,6 +15,6 @@ pub mod WriteLaws
 pub mod ReadLaws
 pub mod BatchLaw
 pub mod ReplyLaws
-pub mod UnmovedLaws
+pub mod AloneLaws
 pub mod FillLaws
 pub mod CallLaws

@@ -36,7 +36,6 @@ use Rattle.mt_meta.proofs.StorePuts.{moves_puts, IsSeen, seen, no_row, the_row}
 use Rattle.mt_meta.proofs.Parts.{FormsAt, KeptAt, kept_on, by_part, old_early}
 use Rattle.mt_batch_plan.proofs.ClientPuts.{IsPutOf, marker_stays, IsOneOf, one_of}
 use Rattle.mt_batch_plan.specs.Bases.{marker_birth, is_write_phase}
-use Rattle.mt_batch_plan.specs.Unmoved.{StaysInOld}
 
 -- a client's properties have nothing hidden
 abbrev pub IsVisible : List Prop → Type 0
@@ -56,7 +55,6 @@ is_write_state BadOld = false
 -- a write of one partition of old
 pub record OldWrite (p : Pair) (part : List ℕ) (rest : List Put) (n : ℕ) (q : Pair) : Type 0 where
   pub step : (own : List Fact) → StepIn own p q part
-  pub stays : StaysInOld p q
   pub was : (rk : List ℕ) → rk ≢ marker_key → logical p part rk ≡ from_old (old_at p part rk)
   pub now : (rk : List ℕ) → rk ≢ marker_key → logical q part rk ≡ from_old (row_after p.old_number n rest rk (old_at p part rk))
 
@@ -169,19 +167,9 @@ module _ (p : Pair) (pk : List ℕ) (props : List Prop) (tag : Tag) (rest : List
       (λ rk other. early_fits (mode p pk) ranks.0 ranks.1 (old_at p pk rk) (old_at pair_written pk rk) (new_at p pk rk) ((to_modes p s).keys pk rk other))
       (λ is none. let e = sym none ∙ at_marker.is in cc)
 
-  stays_written : StaysInOld p pair_written
-  stays_written = record {
-    numbers = (refl, refl);
-    new_same = refl;
-    sealed = refl;
-    markers = λ k. by_part pk k (λ x. (old_state_at pair_written x ≡ old_state_at p x) ⊎ (old_state_at pair_written x ≡ AtUseOld)) (inl state_same)
-        (λ ne. inl (ap old_state (elsewhere p.old_number p.old.counter pk rest p.old.rows k marker_key ne)));
-  }
-
   client_write : OldWrite p pk rest p.old.counter pair_written
   client_write = record {
     step = step_written;
-    stays = stays_written;
     was = λ rk other. shows_old p pk rk s may_write other;
     now = λ rk other. shows_old pair_written pk rk (step_written []).sound (ap is_write_state state_same ∙ may_write) other ∙ ap from_old (row_written rk);
   }
@@ -260,19 +248,9 @@ module _ (p : Pair) (pk : List ℕ) (rest : List Put) (s : IsSound p) (part : pa
   step_born own = old_early own p pk contents_born Empty AtOld s (moves_puts p.old_number pk (marker_birth ∷ rest) p.old) was_empty mode_born (omega arith) (omega arith)
       forms_born kept_born no_entry (λ is none. let e = sym not_sealed ∙ is in cc)
 
-  stays_born : StaysInOld p pair_born
-  stays_born = record {
-    numbers = (refl, refl);
-    new_same = refl;
-    sealed = refl;
-    markers = λ k. by_part pk k (λ x. (old_state_at pair_born x ≡ old_state_at p x) ⊎ (old_state_at pair_born x ≡ AtUseOld)) (inr state_born)
-        (λ ne. inl (ap old_state (elsewhere p.old_number p.old.counter pk (marker_birth ∷ rest) p.old.rows k marker_key ne)));
-  }
-
   birth_write : OldWrite p pk rest (p.old.counter + 1) pair_born
   birth_write = record {
     step = step_born;
-    stays = stays_born;
     was = λ rk other. shows_none p pk rk s no_marker not_sealed ∙ ap from_old (sym (no_rows p s pk no_marker rk));
     now = λ rk other. shows_old pair_born pk rk (step_born []).sound (ap is_write_state state_born) other ∙ ap from_old (row_born rk other);
   }

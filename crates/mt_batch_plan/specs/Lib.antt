@@ -3,4 +3,4 @@ pub mod Calls
 pub mod Plans
 pub mod Verdicts
 pub mod BatchSteps
-pub mod Unmoved
+pub mod Alone

@@ -1,5 +1,5 @@
 -- What was read of two stores is the pair that they tell.
-use Rattle.std.proofs.Common.{◌≡◌, Bool, List, Option, Some, None, refl, inl, inr, sym, subst, ◌∙◌, arith, Result, Ok, Err, IfSome}
+use Rattle.std.proofs.Common.{◌≡◌, ap, Bool, List, Option, Some, None, refl, inl, inr, sym, subst, ◌∙◌, arith, Result, Ok, Err, IfSome}
 use Rattle.mt_model.specs.declared.entity.Entity.{Entity}
 use Rattle.mt_chain.specs.StoreCall.{Contents}
 use Rattle.mt_chain.specs.Store.{Store, Onward, Same}
@@ -11,7 +11,7 @@ use Rattle.mt_open.specs.declared.opening.OpenFault.{OpenFault}
 use Rattle.mt_open.specs.declared.opening.OpenFault.TheVariants as fault
 use Rattle.mt_open.specs.Held.{Held}
 use Rattle.mt_open.specs.Reading.{Passed, AsBefore}
-use Rattle.mt_open.specs.Opening.{Stays, Finds, OpenShows, OpensPair, HoldsStore, fault_of}
+use Rattle.mt_open.specs.Opening.{Stays, Finds, OpenShows, OpensPair, OpensStores, is_emptied, HoldsStore, fault_of}
 use Rattle.mt_open.proofs.ReadingLaws.{onward_start}
 
 -- the pair of two stores that were read
@@ -31,11 +31,11 @@ untouched : (s : Store) → Stays s s
 untouched s = record { number = refl; calls = omega arith; faults = omega arith; contents = onward_start Same s.told (λ a. refl) }
 
 held_stays : (s t : Store) (h : Held) → HoldsStore s (Ok h) t → Stays s t
-held_stays s t h r = passed_stays _ s t r.passed (same_of s.told t.told (λ before after. (after ≡ before) × (h.contents ≡ before)) (λ before after both. both.0) r.shows.1)
+held_stays s t h r = passed_stays _ s t r.passed (same_of s.told t.told (λ before after. (after ≡ before) × (h.contents ≡ before)) (λ before after both. both.0) r.shows.2)
 
 -- what was read of a store that tells is what it tells
 told_held : (s t : Store) (h : Held) → HoldsStore s (Ok h) t → IfSome t.told (λ c. h.contents ≡ c)
-told_held s t h r = go s.told t.told r.shows.1 where
+told_held s t h r = go s.told t.told r.shows.2 where
   go : (a b : Option Contents) → Onward (λ before after. (after ≡ before) × (h.contents ≡ before)) a b → IfSome b (λ c. h.contents ≡ c)
   go a None o = tt
   go None (Some after) o = absurd o
@@ -58,12 +58,16 @@ old_not_read s s' t read.Failed r = record {
   old_stays = passed_stays _ s t r.passed r.shows;
   new_stays = untouched s';
   faults = inl (r.passed.faults, refl);
+  called = tt;
+  rising = tt;
   shows = tt;
 }
 old_not_read s s' t read.NoMemory r = record {
   old_stays = passed_stays _ s t r.passed r.shows;
   new_stays = untouched s';
   faults = (r.passed.faults, refl);
+  called = tt;
+  rising = tt;
   shows = nothing_found t s';
 }
 
@@ -73,12 +77,16 @@ new_not_read s s' t t' a read.Failed low r = record {
   old_stays = held_stays s t a low;
   new_stays = passed_stays _ s' t' r.passed r.shows;
   faults = inr (low.passed.faults, r.passed.faults);
+  called = tt;
+  rising = tt;
   shows = tt;
 }
 new_not_read s s' t t' a read.NoMemory low r = record {
   old_stays = held_stays s t a low;
   new_stays = passed_stays _ s' t' r.passed r.shows;
   faults = (low.passed.faults, r.passed.faults);
+  called = tt;
+  rising = tt;
   shows = nothing_found t t';
 }
 
@@ -88,12 +96,16 @@ both_read s s' t t' a b (Ok es) low high found = record {
   old_stays = held_stays s t a low;
   new_stays = held_stays s' t' b high;
   faults = (low.passed.faults, high.passed.faults);
+  called = (low.shows.1, high.shows.1);
+  rising = found.1.rising;
   shows = for_held t t' a b (λ p. Finds p (Ok es)) low.shows.0 high.shows.0 (told_held s t a low) (told_held s' t' b high) found;
 }
 both_read s s' t t' a b (Err (fault.Damaged store key rule)) low high found = record {
   old_stays = held_stays s t a low;
   new_stays = held_stays s' t' b high;
   faults = (low.passed.faults, high.passed.faults);
+  called = (low.shows.1, high.shows.1);
+  rising = tt;
   shows = for_held t t' a b (λ p. Finds p (Err (fault.Damaged store key rule))) low.shows.0 high.shows.0 (told_held s t a low) (told_held s' t' b high) found;
 }
 both_read s s' t t' a b (Err fault.StoreFault) low high found = absurd found
@@ -101,5 +113,14 @@ both_read s s' t t' a b (Err fault.NoMemory) low high found = record {
   old_stays = held_stays s t a low;
   new_stays = held_stays s' t' b high;
   faults = (low.passed.faults, high.passed.faults);
+  called = tt;
+  rising = tt;
   shows = nothing_found t t';
 }
+
+-- where old tells, what was read of it tells whether it is sealed and has no row
+pub told_emptied : (s t : Store) (h : Held) (emptied : Bool) → HoldsStore s (Ok h) t → emptied ≡ is_emptied h.contents → IfSome t.told (λ c. emptied ≡ is_emptied c)
+told_emptied s t h emptied r is = go t.told (told_held s t h r) where
+  go : (o : Option Contents) → IfSome o (λ c. h.contents ≡ c) → IfSome o (λ c. emptied ≡ is_emptied c)
+  go None e = tt
+  go (Some c) e = is ∙ ap is_emptied e

@@ -368,6 +368,9 @@ step at pk rows rows' next e a b c is m part = (
 finish : (at : PkFrom) (loaded : Loaded) (next : Next) → next.pk ≡ None → loaded.sealed ≡ next.sealed → (a b : Contents) → Mid at loaded.rows next a b → IsRead loaded.rows loaded.sealed a b
 finish at loaded next e sealed a b m = (m.0, m.1 ∙ told_end at a.rows (subst (λ o. IsNext at o a.rows) e m.2), sealed ∙ m.3)
 
+rose_by : (s t u : Store) → s.calls ≤ t.calls → Counted t u → Rose s.calls u.calls
+rose_by s t u grew counted = (let one = counted.calls in omega (arith, grew, one))
+
 pub walk_start : (s : Store) → Walked s (start.From []) [] s
 walk_start s = record {
   passed = none_passed s;
@@ -388,7 +391,10 @@ walk_more s t u v at rows rows' next pk walked asks e part = record {
 pub walk_end : (s t u : Store) (at : PkFrom) (loaded : Loaded) (next : Next) → Walked s at loaded.rows t → AsksNext t at (Ok next) u → next.pk ≡ None → loaded.sealed ≡ next.sealed → ReadsStore s (Ok loaded) u
 walk_end s t u at loaded next walked asks e sealed = record {
   passed = passed_then false s t u walked.passed asks.passed;
-  shows = onward_one (Mid at loaded.rows next) (IsRead loaded.rows loaded.sealed) s.told u.told (finish at loaded next e sealed) (mid s t u at loaded.rows next walked asks);
+  shows = (
+    rose_by s t u walked.passed.calls asks.shows.0,
+    onward_one (Mid at loaded.rows next) (IsRead loaded.rows loaded.sealed) s.told u.told (finish at loaded next e sealed) (mid s t u at loaded.rows next walked asks),
+  );
 }
 
 pub walk_next_err : (s t u : Store) (at : PkFrom) (rows : Rows) (fault : ReadFault) → Walked s at rows t → AsksNext t at (Err fault) u → ReadsStore s (Err fault) u

@@ -1,9 +1,11 @@
 -- Two stores that are opened as one table.
-use Rattle.std.specs.Prelude.{◌≡◌, ◌⊎◌, ℕ, ◌≤◌, Bool, true, false, List, Result, Ok, Err}
+use Rattle.std.specs.Prelude.{◌≡◌, ◌⊎◌, ℕ, ◌≤◌, Bool, true, false, ◌&&◌, ◌==◌, IsTrue, List, length, Result, Ok, Err, IfOk, IfSome}
 use Rattle.mt_model.specs.declared.entity.Entity.{Entity}
 use Rattle.mt_model.specs.declared.key.Key.{Key}
-use Rattle.mt_chain.specs.Table.{IsListing}
-use Rattle.mt_chain.specs.Store.{Store, Onward, FaultsBy}
+use Rattle.mt_chain.specs.Rows.{are_rising}
+use Rattle.mt_chain.specs.Table.{IsListing, rows_of}
+use Rattle.mt_chain.specs.StoreCall.{Contents}
+use Rattle.mt_chain.specs.Store.{Store, Onward, Rose, FaultsBy}
 use Rattle.mt_meta.specs.Logical.{Pair, ForPair}
 use Rattle.mt_meta.specs.Sound.{IsSound}
 use Rattle.mt_meta.specs.Steps.{logical_table}
@@ -11,6 +13,7 @@ use Rattle.mt_open.specs.declared.damage.Rule.{Rule}
 use Rattle.mt_open.specs.declared.damage.Damage.{Damage}
 use Rattle.mt_open.specs.declared.reading.ReadFault.{ReadFault}
 use Rattle.mt_open.specs.declared.reading.ReadFault.TheVariants as read
+use Rattle.mt_open.specs.declared.opening.OpenedPair.{OpenedPair}
 use Rattle.mt_open.specs.declared.opening.OpenFault.{OpenFault}
 use Rattle.mt_open.specs.declared.opening.OpenFault.TheVariants.{Damaged, StoreFault, NoMemory}
 use Rattle.mt_open.specs.Held.{Held}
@@ -50,18 +53,48 @@ abbrev pub OpenShows : Result (List Entity) OpenFault → Store → Store → Ty
 OpenShows (Err StoreFault) t t' = Unit {0}
 OpenShows r t t' = ForPair t.number t'.number t.told t'.told (λ p. Finds p r)
 
+-- both stores were called before a table or a damage was told
+abbrev pub AreCalled : Result (List Entity) OpenFault → Store → Store → Store → Store → Type 0
+AreCalled (Ok es) s s' t t' = Rose s.calls t.calls × Rose s'.calls t'.calls
+AreCalled (Err (Damaged store key number)) s s' t t' = Rose s.calls t.calls × Rose s'.calls t'.calls
+AreCalled (Err StoreFault) s s' t t' = Unit {0}
+AreCalled (Err NoMemory) s s' t t' = Unit {0}
+
 -- what comes of opening two stores
 pub record OpensPair (s s' : Store) (r : Result (List Entity) OpenFault) (t t' : Store) : Type 0 where
   pub old_stays : Stays s t
   pub new_stays : Stays s' t'
   pub faults : OpenFaults (is_store_fault r) s s' t t'
+  pub called : AreCalled r s s' t t'
+  pub rising : IfOk r (λ es. IsTrue (are_rising (rows_of es)))
   pub shows : OpenShows r t t'
+
+-- ---- and whether old has nothing left
+
+-- sealed, and without a row
+abbrev pub is_emptied : Contents → Bool
+is_emptied c = c.sealed && (length c.rows == 0)
+
+-- the rows that were opened, or why they were not
+abbrev pub table_opened : Result OpenedPair OpenFault → Result (List Entity) OpenFault
+table_opened (Ok opened) = Ok opened.table
+table_opened (Err fault) = Err fault
+
+-- where old tells, it was told whether it is sealed and has no row
+abbrev pub TellsEmptied : Result OpenedPair OpenFault → Store → Type 0
+TellsEmptied (Ok opened) t = IfSome t.told (λ c. opened.is_old_emptied ≡ is_emptied c)
+TellsEmptied (Err fault) t = Unit {0}
+
+-- what comes of opening two stores, where that is told too
+pub record OpensStores (s s' : Store) (r : Result OpenedPair OpenFault) (t t' : Store) : Type 0 where
+  pub opens : OpensPair s s' (table_opened r) t t'
+  pub emptied : TellsEmptied r t
 
 -- ---- one store
 
 -- a store as it was read, with its number, or why it was not
 abbrev pub HoldShows : Result Held ReadFault → Store → Store → Type 0
-HoldShows (Ok held) s t = (held.number ≡ t.number) × Onward (λ before after. (after ≡ before) × (held.contents ≡ before)) s.told t.told
+HoldShows (Ok held) s t = (held.number ≡ t.number) × Rose s.calls t.calls × Onward (λ before after. (after ≡ before) × (held.contents ≡ before)) s.told t.told
 HoldShows (Err fault) s t = AsBefore s t
 
 -- what comes of reading a store with its number

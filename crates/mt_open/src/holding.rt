@@ -2,6 +2,7 @@
 ghost use Rattle.std.specs.Prelude.{◌≡◌, IsTrue, option_copied};
 ghost use Rattle.mt_chain.specs.Rows.{are_rising, row_at};
 ghost use Rattle.mt_meta.specs.Markers.{marker_key};
+ghost use Rattle.mt_open.specs.Opening.{is_emptied};
 
 use mt_chain::{Row, Rows, Stored};
 use mt_meta::MARKER_KEY;
@@ -61,6 +62,13 @@ impl Holding {
         ensures { result ≡ self.now.contents.sealed }
     {
         self.sealed
+    }
+
+    /// Whether the store is sealed and has no row.
+    pub fn is_emptied(&self) -> bool
+        ensures { result ≡ is_emptied self.now.contents }
+    {
+        self.sealed && self.rows.as_slice().is_empty()
     }
 
     /// How many tags the store gave.

@@ -18,7 +18,7 @@ pub use damage::{Damage, Rule};
 pub use first::first_damage;
 pub use holding::Holding;
 pub use holdings::Holdings;
-pub use opening::{OpenFault, open_pair};
+pub use opening::{OpenFault, OpenedPair, open_pair, open_stores};
 pub use reading::{Loaded, ReadFault, read_store};
 pub use table::entity_at;
 pub use walk::logical_table;

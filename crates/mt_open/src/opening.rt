@@ -1,7 +1,7 @@
 //! Two stores opened as one table.
 ghost use Rattle.std.specs.Prelude.{◌≡◌};
 ghost use Rattle.mt_open.specs.Holdings.{pair_in};
-ghost use Rattle.mt_open.specs.Opening.{HoldsStore, OpensPair, Finds, fault_of, damaged};
+ghost use Rattle.mt_open.specs.Opening.{HoldsStore, OpensPair, OpensStores, Finds, fault_of, damaged};
 
 use crate::damage::Damage;
 use crate::first::first_damage;
@@ -12,6 +12,16 @@ use crate::walk::logical_table;
 use mt_chain::Keeper;
 use mt_model::{Entities, Key, NoMemory};
 use std::alloc::Global;
+
+/// What two stores show that were opened as one table.
+#[derive(Drop)]
+pub struct OpenedPair {
+    /// The rows that clients see, in the order of their keys.
+    pub table: Entities,
+
+    /// Whether the old store is sealed and has no row.
+    pub is_old_emptied: bool,
+}
 
 /// Why two stores were not opened.
 #[derive(Debug, Drop, PartialEq, Eq)]
@@ -87,18 +97,19 @@ fn table_of(alloc: Global, stores: &Holdings) -> Result<Entities, OpenFault>
 }
 
 /// Opens two stores as one table: reads the old one whole, then the new one, and gives the rows that
-/// clients see, in the order of their keys.
+/// clients see, in the order of their keys. It tells from what it read whether the old store is sealed
+/// and has no row.
 ///
 /// Rows come only of a sound pair. `Damaged` comes only of one that is not, with the first damage: by
 /// the rules in their order, then by the least key, and at equal keys old before new. `StoreFault`
 /// comes only where one of the two stores failed, and its count of faults rose; after every other answer
 /// both counts are as before. The contents of both stay as they were, whatever is answered.
-pub fn open_pair<K: Keeper>(
+pub fn open_stores<K: Keeper>(
     alloc: Global,
     old_store: &mut K,
     new_store: &mut K,
-) -> Result<Entities, OpenFault>
-    ensures { OpensPair (K.state old_store.old) (K.state new_store.old) result (K.state old_store.new) (K.state new_store.new) }
+) -> Result<OpenedPair, OpenFault>
+    ensures { OpensStores (K.state old_store.old) (K.state new_store.old) result (K.state old_store.new) (K.state new_store.new) }
 {
     let old = match hold(alloc, old_store) {
         Ok(old) => old,
@@ -108,5 +119,26 @@ pub fn open_pair<K: Keeper>(
         Ok(new) => new,
         Err(fault) => return Err(fault_of(fault)),
     };
-    table_of(alloc, &Holdings { old, new })
+    let is_old_emptied = old.is_emptied();
+    match table_of(alloc, &Holdings { old, new }) {
+        Ok(table) => Ok(OpenedPair {
+            table,
+            is_old_emptied,
+        }),
+        Err(fault) => Err(fault),
+    }
+}
+
+/// Opens two stores as one table, as `open_stores` does, and gives the rows that clients see.
+pub fn open_pair<K: Keeper>(
+    alloc: Global,
+    old_store: &mut K,
+    new_store: &mut K,
+) -> Result<Entities, OpenFault>
+    ensures { OpensPair (K.state old_store.old) (K.state new_store.old) result (K.state old_store.new) (K.state new_store.new) }
+{
+    match open_stores(alloc, old_store, new_store) {
+        Ok(opened) => Ok(opened.table),
+        Err(fault) => Err(fault),
+    }
 }

@@ -6,12 +6,18 @@ use Rattle.mt_io.specs.Ends.{Input, Output}
 use Rattle.mt_chain.specs.StoreCall.{Contents}
 use Rattle.mt_chain.specs.Store.{Store, Rose, Onward, Same}
 use Rattle.mt_chain.specs.Shelf.{Shelf, HandedOut, SameBeside, TakesBack}
+use Rattle.mt_chain.specs.Table.{IsListing}
+use Rattle.mt_model.specs.declared.entity.Entity.{Entity}
+use Rattle.mt_model.specs.declared.key.Key.{Key}
 use Rattle.mt_history.specs.declared.entry.Entry.{Entry}
-use Rattle.mt_meta.specs.Logical.{pair_of as pair_with}
+use Rattle.mt_meta.specs.Logical.{pair_of as pair_with, ForPair}
+use Rattle.mt_meta.specs.Sound.{IsSound}
+use Rattle.mt_meta.specs.Steps.{logical_table}
 use Rattle.mt_world.specs.Worlds.{WorldState, Tells, IsReplayed, IsWorld, pair_of}
-use Rattle.mt_world.specs.declared.opening.OpenFault.{OpenFault}
-use Rattle.mt_world.specs.declared.opening.OpenFault.TheVariants as opening
-use Rattle.mt_world.specs.Opening.{IsFresh, Opened, IsFirstNotFresh, ComesBack}
+use Rattle.mt_open.specs.declared.opening.OpenFault.{OpenFault}
+use Rattle.mt_open.specs.declared.opening.OpenFault.TheVariants as opening
+use Rattle.mt_open.specs.Opening.{IsDamagedAt, OpenFaults, OpensPair}
+use Rattle.mt_world.specs.Opening.{Opened}
 use Rattle.mt_front.specs.declared.connection.End.TheVariants as end
 use Rattle.mt_front.specs.declared.connection.End.{End}
 use Rattle.mt_front.specs.declared.connection.Served.{Served as ServedTo}
@@ -19,13 +25,14 @@ use Rattle.mt_front.specs.declared.connection.ConnFault.{ConnFault}
 use Rattle.mt_front.specs.declared.connection.ConnFault.TheVariants as conn
 use Rattle.mt_front.specs.Items.{Item, faults_of}
 use Rattle.mt_front.specs.Answers.{FitsFrom, AreCaused, past_end}
-use Rattle.mt_front.specs.Session.{Course, past_of, counts_of, SessionAs, EndsAs, Serves}
+use Rattle.mt_front.specs.Session.{Sent, Cut, Course, past_of, counts_of, SessionAs, EndsAs, Serves}
 use Rattle.mt_front.proofs.CauseLaws.{caused_sum}
 use Rattle.mt_front.proofs.FitLaws.{fits_sooner}
 use Rattle.mt_top.specs.declared.running.Ending.{Ending}
-use Rattle.mt_top.specs.declared.running.Ending.TheVariants.{Served, BadWords, ReadFault, WriteFault, StoreFault, Occupied, BadInput, NoMemory}
-use Rattle.mt_top.specs.Run.{Service, orders, is_bad_words, Along, Tellings, Idle, NotFresh, AllTell, IsReplay, Wrote, FaultsRose, During, RunEnds, depot_tellings}
-use Rattle.mt_top.specs.Endings.{ending_at, ending_of, opening_ending, tellings_of, Over, OverDepot}
+use Rattle.mt_top.specs.declared.running.Ending.TheVariants.{Served, BadWords, ReadFault, WriteFault, StoreFault, Damaged, BadInput, NoMemory}
+use Rattle.mt_top.specs.Lines.{damage_line}
+use Rattle.mt_top.specs.Run.{Service, orders, is_bad_words, Along, Tellings, Idle, WhereTold, AllTell, IsOpened, IsReplay, AtDamage, Wrote, FaultsRose, During, RunEnds, depot_tellings}
+use Rattle.mt_top.specs.Endings.{ending_at, ending_of, Refuses, tellings_of, Over, OverDepot}
 
 -- ---- one store before and after
 
@@ -38,12 +45,16 @@ same_along : (x : Option Contents) → Along Same x x
 same_along None = tt
 same_along (Some a) = refl
 
--- a store that was opened without rows, while it tells: a session came between
-fresh_along : (x y z : Option Contents) → Onward Same x y → Onward (λ before after. IsFresh after) x y → (is_some z ≡ true → is_some y ≡ true) → Along (λ a b. IsFresh a) x z
-fresh_along None y z same fresh told = tt
-fresh_along (Some a) y None same fresh told = tt
-fresh_along (Some a) None (Some b) same fresh told = absurd (let e : false ≡ true = told refl in cc)
-fresh_along (Some a) (Some c) (Some b) same fresh told = subst IsFresh same fresh
+-- what opening found of two stores is so of what they told before, where they still tell after what came between
+opened_along : (P : Contents → Contents → Type 0) (x x' m m' y y' : Option Contents) → Onward Same x m → Onward Same x' m' → (is_some y ≡ true → is_some m ≡ true) → (is_some y' ≡ true → is_some m' ≡ true)
+    → IfSome m (λ b. IfSome m' (λ b'. P b b')) → IfSome x (λ a. IfSome x' (λ a'. IfSome y (λ b. IfSome y' (λ b'. P a a'))))
+opened_along P None x' m m' y y' low high told told' h = tt
+opened_along P (Some a) None m m' y y' low high told told' h = tt
+opened_along P (Some a) (Some a') m m' None y' low high told told' h = tt
+opened_along P (Some a) (Some a') m m' (Some b) None low high told told' h = tt
+opened_along P (Some a) (Some a') None m' (Some b) (Some b') low high told told' h = absurd (let e : false ≡ true = told refl in cc)
+opened_along P (Some a) (Some a') (Some c) None (Some b) (Some b') low high told told' h = absurd (let e : false ≡ true = told' refl in cc)
+opened_along P (Some a) (Some a') (Some c) (Some c') (Some b) (Some b') low high told told' h = subst (λ v. P v a') low (subst (P c) high h)
 
 -- ---- the world at the end
 
@@ -104,6 +115,14 @@ caused_both k l w w' items p q h = elim (caused_sum (counts_of w) (counts_of w')
 ]
 
 module _ (s : Input) (o : Output) (k l : Store) (w : WorldState) (r : Result ServedTo ConnFault) (w' : WorldState) (t : Input) (x : Output) (zero : k.number ≡ 0) (one : l.number ≡ 1) (world : IsWorld w') where
+  found : (base : List Entity) → base ≡ w.base → w.old_store.number ≡ 0 → w.new_store.number ≡ 1
+      → ForPair w.old_store.number w.new_store.number w.old_store.told w.new_store.told (λ p. IsSound p × IsListing w.base (logical_table p))
+      → ForPair 0 1 w.old_store.told w.new_store.told (λ p. IsSound p × IsListing base (logical_table p))
+  found base same low high h =
+      subst (λ es. ForPair 0 1 w.old_store.told w.new_store.told (λ p. IsSound p × IsListing es (logical_table p))) (sym same)
+      (subst (λ n. ForPair 0 n w.old_store.told w.new_store.told (λ p. IsSound p × IsListing w.base (logical_table p))) high
+      (subst (λ n. ForPair n w.new_store.number w.old_store.told w.new_store.told (λ p. IsSound p × IsListing w.base (logical_table p))) low h))
+
   during : Opened k l orders.limit w → Serves 0 orders.table w s o r w' t x → During orders s o (ending_of r) (tellings_of k w'.old_store l w'.new_store) (k.faults + l.faults) (w'.old_store.faults + w'.new_store.faults) t x
   during opened served =
       let same = served.talk.same in
@@ -112,7 +131,7 @@ module _ (s : Input) (o : Output) (k l : Store) (w : WorldState) (r : Result Ser
       record {
         course = served.course;
         world = w';
-        world_is = record { base = same.base ∙ opened.base; limit = same.limit ∙ opened.limit; first = first };
+        world_is = record { limit = same.limit ∙ opened.limit; first = first };
         is_course = served.is_course;
         answered = record {
           rendered = served.talk.answered.rendered;
@@ -120,19 +139,17 @@ module _ (s : Input) (o : Output) (k l : Store) (w : WorldState) (r : Result Ser
               (subst (λ n. FitsFrom 0 (Tells w') (past_of w') n served.course.items []) started served.talk.answered.fits);
         };
         own = subst (λ (es : List Entry). All (λ (e : Entry). e.caller ≡ 0) es) (sym (served.talk.added.grew ∙ ap (λ (es : List Entry). es ++ served.talk.added.more) opened.nothing)) served.talk.added.own;
-        fresh = (
-          fresh_along k.told w.old_store.told w'.old_store.told opened.old_stays.contents opened.old_fresh served.talk.told.old_told,
-          fresh_along l.told w.new_store.told w'.new_store.told opened.new_stays.contents opened.new_fresh served.talk.told.new_told,
-        );
-        replayed = replayed_at orders w' (same.old_number ∙ opened.old_stays.number ∙ zero) (same.new_number ∙ opened.new_stays.number ∙ one) k.told l.told w'.old_store.told w'.new_store.told world.replayed;
-        caused = caused_both k l w w' served.course.items opened.old_stays.faults opened.new_stays.faults served.talk.caused;
+        opened = opened_along (IsOpened orders w') k.told l.told w.old_store.told w.new_store.told w'.old_store.told w'.new_store.told opened.opens.old_stays.contents opened.opens.new_stays.contents served.talk.told.old_told served.talk.told.new_told
+            (found w'.base same.base (opened.opens.old_stays.number ∙ zero) (opened.opens.new_stays.number ∙ one) opened.opens.shows);
+        replayed = replayed_at orders w' (same.old_number ∙ opened.opens.old_stays.number ∙ zero) (same.new_number ∙ opened.opens.new_stays.number ∙ one) k.told l.told w'.old_store.told w'.new_store.told world.replayed;
+        caused = caused_both k l w w' served.course.items opened.opens.old_stays.faults opened.opens.new_stays.faults served.talk.caused;
         wrote = wrote s o served.course r t x served.ends;
       }
 
   over_session : Opened k l orders.limit w → Serves 0 orders.table w s o r w' t x → Over s o k l (ending_of r) t x w'.old_store w'.new_store
   over_session opened served = record {
-    number = served.talk.same.old_number ∙ opened.old_stays.number;
-    number_new = served.talk.same.new_number ∙ opened.new_stays.number;
+    number = served.talk.same.old_number ∙ opened.opens.old_stays.number;
+    number_new = served.talk.same.new_number ∙ opened.opens.new_stays.number;
     spoken = spoken r;
     ends = by_during orders s o (tellings_of k w'.old_store l w'.new_store) (k.faults + l.faults) (w'.old_store.faults + w'.new_store.faults) r t x (during opened served);
   }
@@ -145,40 +162,50 @@ module _ (s : Input) (o : Output) (k l : Store) (w : WorldState) (r : Result Ser
 
 -- ---- stores that were not opened
 
-not_fresh_along : (x y : Option Contents) → Onward Same x y → Onward (λ before after. IsFresh after → ⊥) x y → NotFresh x y
-not_fresh_along None y same h = tt
-not_fresh_along (Some a) None same h = tt
-not_fresh_along (Some a) (Some b) same h = λ fresh. h (subst IsFresh (sym same) fresh)
-
-module _ (s : Input) (o : Output) (k l k' l' : Store) where
-  idle_over : (f : OpenFault) → ComesBack k l f k' l' → Idle s o (tellings_of k k' l l') s o
-  idle_over f c = record {
+module _ (s : Input) (o : Output) (k l k' l' : Store) (zero : k.number ≡ 0) (one : l.number ≡ 1) where
+  idle_over : (x : Output) (f : OpenFault) → x ≡ o → OpensPair k l (Err f) k' l' → Idle s o (tellings_of k k' l l') s x
+  idle_over x f same c = record {
     source = refl;
-    sink = refl;
+    sink = same;
     old_same = along Same Same k.told k'.told (λ a b p. p) c.old_stays.contents;
     new_same = along Same Same l.told l'.told (λ a b p. p) c.new_stays.contents;
   }
 
-  not_fresh : (n : ℕ) → Onward Same k.told k'.told → Onward Same l.told l'.told → IsFirstNotFresh n k l k' l' → NotFresh k.told k'.told ⊎ NotFresh l.told l'.told
-  not_fresh n p q (inl h) = inl (not_fresh_along k.told k'.told p h.1)
-  not_fresh n p q (inr h) = inr (not_fresh_along l.told l'.told q h.2)
+  rose_both : OpenFaults true k l k' l' → k.faults ≤ k'.faults → l.faults ≤ l'.faults → Rose (k.faults + l.faults) (k'.faults + l'.faults)
+  rose_both (inl h) p q = let r : min (k.faults + 1) (2 ^ 64 - 1) ≤ k'.faults = h.0 in let g : min (k.faults + l.faults + 1) (2 ^ 64 - 1) ≤ k'.faults + l'.faults = omega (arith, r, p, q) in g
+  rose_both (inr h) p q = let r : min (l.faults + 1) (2 ^ 64 - 1) ≤ l'.faults = h.1 in let g : min (k.faults + l.faults + 1) (2 ^ 64 - 1) ≤ k'.faults + l'.faults = omega (arith, r, p, q) in g
 
-  rose_both : Rose k.faults k'.faults ⊎ Rose l.faults l'.faults → k.faults ≤ k'.faults → l.faults ≤ l'.faults → Rose (k.faults + l.faults) (k'.faults + l'.faults)
-  rose_both (inl h) p q = let r : min (k.faults + 1) (2 ^ 64 - 1) ≤ k'.faults = h in let g : min (k.faults + l.faults + 1) (2 ^ 64 - 1) ≤ k'.faults + l'.faults = omega (arith, r, p, q) in g
-  rose_both (inr h) p q = let r : min (l.faults + 1) (2 ^ 64 - 1) ≤ l'.faults = h in let g : min (k.faults + l.faults + 1) (2 ^ 64 - 1) ≤ k'.faults + l'.faults = omega (arith, r, p, q) in g
+  damaged_at : (n : ℕ) (key : Key) (rule : ℕ) → k'.number ≡ 0 → l'.number ≡ 1 → ForPair k'.number l'.number k'.told l'.told (λ p. IsDamagedAt p n key rule) → ForPair 0 1 k'.told l'.told (λ p. IsDamagedAt p n key rule)
+  damaged_at n key rule low high h =
+      subst (λ m. ForPair 0 m k'.told l'.told (λ p. IsDamagedAt p n key rule)) high (subst (λ m. ForPair m l'.number k'.told l'.told (λ p. IsDamagedAt p n key rule)) low h)
 
-  refused_ends : (f : OpenFault) → ComesBack k l f k' l' → RunEnds orders s o (opening_ending f) (tellings_of k k' l l') (k.faults + l.faults) (k'.faults + l'.faults) s o
-  refused_ends (opening.NotEmpty n) c = (idle_over (opening.NotEmpty n) c, not_fresh n c.old_stays.contents c.new_stays.contents c.refused)
-  refused_ends opening.StoreFault c = (idle_over opening.StoreFault c, rose_both c.refused c.old_stays.faults c.new_stays.faults)
-  refused_ends opening.NoMemory c = inl (idle_over opening.NoMemory c)
+  at_damage : (x : Output) (n : ℕ) (key : Key) (rule : ℕ) → Sent o (damage_line n key rule) x ⊎ Cut o (damage_line n key rule) x → OpensPair k l (Err (opening.Damaged n key rule)) k' l' → AtDamage orders s o (tellings_of k k' l l') s x
+  at_damage x n key rule said c = record {
+    store = n;
+    key = key;
+    rule = rule;
+    source = refl;
+    wrote = said;
+    old_same = along Same Same k.told k'.told (λ a b p. p) c.old_stays.contents;
+    new_same = along Same Same l.told l'.told (λ a b p. p) c.new_stays.contents;
+    damaged = opened_along (λ a a'. IsDamagedAt (pair_with 0 1 a a') n key rule) k.told l.told k'.told l'.told k'.told l'.told c.old_stays.contents c.new_stays.contents (λ e. e) (λ e. e)
+        (damaged_at n key rule (c.old_stays.number ∙ zero) (c.new_stays.number ∙ one) c.shows);
+  }
 
-  spoken_opening : (f : OpenFault) → is_bad_words (opening_ending f) ≡ false
-  spoken_opening (opening.NotEmpty n) = refl
-  spoken_opening opening.StoreFault = refl
-  spoken_opening opening.NoMemory = refl
+  refused_ends : (f : OpenFault) (ending : Ending) (x : Output) → Refuses o f ending x → OpensPair k l (Err f) k' l' → RunEnds orders s o ending (tellings_of k k' l l') (k.faults + l.faults) (k'.faults + l'.faults) s x
+  refused_ends (opening.Damaged n key rule) ending x (inl h) c = subst (λ e. RunEnds orders s o e (tellings_of k k' l l') (k.faults + l.faults) (k'.faults + l'.faults) s x) (sym h.0) (at_damage x n key rule h.1 c)
+  refused_ends (opening.Damaged n key rule) ending x (inr h) c = subst (λ e. RunEnds orders s o e (tellings_of k k' l l') (k.faults + l.faults) (k'.faults + l'.faults) s x) (sym h.0) (inl (idle_over x (opening.Damaged n key rule) h.1 c))
+  refused_ends opening.StoreFault ending x h c = subst (λ e. RunEnds orders s o e (tellings_of k k' l l') (k.faults + l.faults) (k'.faults + l'.faults) s x) (sym h.0) (idle_over x opening.StoreFault h.1 c, rose_both c.faults c.old_stays.faults c.new_stays.faults)
+  refused_ends opening.NoMemory ending x h c = subst (λ e. RunEnds orders s o e (tellings_of k k' l l') (k.faults + l.faults) (k'.faults + l'.faults) s x) (sym h.0) (inl (idle_over x opening.NoMemory h.1 c))
 
-  pub over_refused : (f : OpenFault) (ending : Ending) → ending ≡ opening_ending f → ComesBack k l f k' l' → Over s o k l ending s o k' l'
-  over_refused f ending is c = subst (λ n. Over s o k l n s o k' l') (sym is) (record { number = c.old_stays.number; number_new = c.new_stays.number; spoken = spoken_opening f; ends = refused_ends f c })
+  spoken_refused : (f : OpenFault) (ending : Ending) (x : Output) → Refuses o f ending x → is_bad_words ending ≡ false
+  spoken_refused (opening.Damaged n key rule) ending x (inl h) = ap is_bad_words h.0
+  spoken_refused (opening.Damaged n key rule) ending x (inr h) = ap is_bad_words h.0
+  spoken_refused opening.StoreFault ending x h = ap is_bad_words h.0
+  spoken_refused opening.NoMemory ending x h = ap is_bad_words h.0
+
+  pub over_refused : (f : OpenFault) (ending : Ending) (x : Output) → Refuses o f ending x → OpensPair k l (Err f) k' l' → Over s o k l ending s x k' l'
+  over_refused f ending x said c = record { number = c.old_stays.number; number_new = c.new_stays.number; spoken = spoken_refused f ending x said; ends = refused_ends f ending x said c }
 
 -- ---- a depot tells of its stores no more than they do
 
@@ -203,17 +230,17 @@ some_less : (x x' : Option Contents) → TellsLess x' x → is_some x' ≡ true 
 some_less x None f e = absurd (let h : false ≡ true = e in cc)
 some_less x (Some a) f e = ap is_some f
 
-all_less : (Q : Contents → Contents → Type 0) (x y z u x' y' z' u' : Option Contents) → TellsLess x' x → TellsLess y' y → TellsLess z' z → TellsLess u' u
-    → IfSome x (λ a. IfSome y (λ a'. IfSome z (λ b. IfSome u (λ b'. Q b b')))) → IfSome x' (λ a. IfSome y' (λ a'. IfSome z' (λ b. IfSome u' (λ b'. Q b b'))))
+all_less : (Q : Contents → Contents → Contents → Contents → Type 0) (x y z u x' y' z' u' : Option Contents) → TellsLess x' x → TellsLess y' y → TellsLess z' z → TellsLess u' u
+    → IfSome x (λ a. IfSome y (λ a'. IfSome z (λ b. IfSome u (λ b'. Q a a' b b')))) → IfSome x' (λ a. IfSome y' (λ a'. IfSome z' (λ b. IfSome u' (λ b'. Q a a' b b'))))
 all_less Q x y z u None y' z' u' f g h i p = tt
 all_less Q x y z u (Some a) None z' u' f g h i p = tt
 all_less Q x y z u (Some a) (Some a') None u' f g h i p = tt
 all_less Q x y z u (Some a) (Some a') (Some b) None f g h i p = tt
 all_less Q x y z u (Some a) (Some a') (Some b) (Some b') f g h i p =
-    let one : IfSome y (λ m. IfSome z (λ m'. IfSome u (λ n. Q m' n))) = subst (λ v. IfSome v (λ c. IfSome y (λ m. IfSome z (λ m'. IfSome u (λ n. Q m' n))))) f p in
-    let two : IfSome z (λ m'. IfSome u (λ n. Q m' n)) = subst (λ v. IfSome v (λ m. IfSome z (λ m'. IfSome u (λ n. Q m' n)))) g one in
-    let three : IfSome u (λ n. Q b n) = subst (λ v. IfSome v (λ m'. IfSome u (λ n. Q m' n))) h two in
-    subst (λ v. IfSome v (λ n. Q b n)) i three
+    let one : IfSome y (λ m. IfSome z (λ m'. IfSome u (λ n. Q a m m' n))) = subst (λ v. IfSome v (λ c. IfSome y (λ m. IfSome z (λ m'. IfSome u (λ n. Q c m m' n))))) f p in
+    let two : IfSome z (λ m'. IfSome u (λ n. Q a a' m' n)) = subst (λ v. IfSome v (λ m. IfSome z (λ m'. IfSome u (λ n. Q a m m' n)))) g one in
+    let three : IfSome u (λ n. Q a a' b n) = subst (λ v. IfSome v (λ m'. IfSome u (λ n. Q a a' m' n))) h two in
+    subst (λ v. IfSome v (λ n. Q a a' b n)) i three
 
 pub record Less (c c' : Tellings) : Type 0 where
   pub old_before : TellsLess c'.old_before c.old_before
@@ -234,6 +261,9 @@ module _ (s : Input) (o : Output) (c c' : Tellings) (t : Input) (x : Output) (le
   carried_rose : Rose b n → Rose b' n'
   carried_rose h = let r : min (b + 1) (2 ^ 64 - 1) ≤ n = h in let g : min (b' + 1) (2 ^ 64 - 1) ≤ n' = omega (arith, r, zero, grew) in g
 
+  carried_told : (Q : Contents → Contents → Contents → Contents → Type 0) → WhereTold c Q → WhereTold c' Q
+  carried_told Q h = all_less Q c.old_before c.new_before c.old_after c.new_after c'.old_before c'.new_before c'.old_after c'.new_after less.old_before less.new_before less.old_after less.new_after h
+
   carried_during : (ending : Ending) → During orders s o ending c b n t x → During orders s o ending c' b' n' t x
   carried_during ending d = record {
     course = d.course;
@@ -250,12 +280,8 @@ module _ (s : Input) (o : Output) (c c' : Tellings) (t : Input) (x : Output) (le
       }) (past_of d.world) 0 d.course.items [] d.answered.fits;
     };
     own = d.own;
-    fresh = (
-      along_less (λ a b. IsFresh a) c.old_before c.old_after c'.old_before c'.old_after less.old_before less.old_after d.fresh.0,
-      along_less (λ a b. IsFresh a) c.new_before c.new_after c'.new_before c'.new_after less.new_before less.new_after d.fresh.1,
-    );
-    replayed = all_less (IsReplay orders d.world) c.old_before c.new_before c.old_after c.new_after c'.old_before c'.new_before c'.old_after c'.new_after
-        less.old_before less.new_before less.old_after less.new_after d.replayed;
+    opened = carried_told (λ a a' b b'. IsOpened orders d.world a a') d.opened;
+    replayed = carried_told (λ a a' b b'. IsReplay orders d.world b b') d.replayed;
     caused = carried_caused d.course.items d.caused;
     wrote = d.wrote;
   }
@@ -272,9 +298,17 @@ module _ (s : Input) (o : Output) (c c' : Tellings) (t : Input) (x : Output) (le
   carried_or (inl i) = inl (carried_idle i)
   carried_or (inr d) = inr (carried_during NoMemory d)
 
-  carried_full : NotFresh c.old_before c.old_after ⊎ NotFresh c.new_before c.new_after → NotFresh c'.old_before c'.old_after ⊎ NotFresh c'.new_before c'.new_after
-  carried_full (inl p) = inl (along_less (λ a b. IsFresh a → ⊥) c.old_before c.old_after c'.old_before c'.old_after less.old_before less.old_after p)
-  carried_full (inr p) = inr (along_less (λ a b. IsFresh a → ⊥) c.new_before c.new_after c'.new_before c'.new_after less.new_before less.new_after p)
+  carried_damage : AtDamage orders s o c t x → AtDamage orders s o c' t x
+  carried_damage d = record {
+    store = d.store;
+    key = d.key;
+    rule = d.rule;
+    source = d.source;
+    wrote = d.wrote;
+    old_same = along_less Same c.old_before c.old_after c'.old_before c'.old_after less.old_before less.old_after d.old_same;
+    new_same = along_less Same c.new_before c.new_after c'.new_before c'.new_after less.new_before less.new_after d.new_same;
+    damaged = carried_told (λ a a' b b'. IsDamagedAt (pair_with 0 1 a a') d.store d.key d.rule) d.damaged;
+  }
 
   carried : (ending : Ending) → RunEnds orders s o ending c b n t x → RunEnds orders s o ending c' b' n' t x
   carried Served e = carried_during Served e
@@ -287,7 +321,7 @@ module _ (s : Input) (o : Output) (c c' : Tellings) (t : Input) (x : Output) (le
   carried ReadFault e = carried_during ReadFault e
   carried WriteFault e = carried_during WriteFault e
   carried StoreFault e = (carried_idle e.0, carried_rose e.1)
-  carried Occupied e = (carried_idle e.0, carried_full e.1)
+  carried Damaged e = carried_damage e
   carried BadInput e = carried_during BadInput e
   carried NoMemory e = carried_or e
 

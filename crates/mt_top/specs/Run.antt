@@ -1,18 +1,22 @@
 -- A run of the program: the words, the stores of the depot, and a session over the world that they are opened as.
 use Rattle.std.specs.Prelude.{◌≡◌, ◌≢◌, ◌⊎◌, ℕ, ◌+◌, ◌-◌, ◌^◌, ◌≤◌, Bool, true, false, not, All, bytes_eq, is_some, string_bytes, String, List, [], ◌∷◌, codes, Option, IfSome}
 use Rattle.mt_io.specs.Ends.{Input, Output, Rose}
-use Rattle.mt_model.specs.declared.entity.Entity.{Entity}
+use Rattle.mt_model.specs.declared.key.Key.{Key}
 use Rattle.mt_chain.specs.StoreCall.{Contents}
 use Rattle.mt_chain.specs.Store.{Same}
 use Rattle.mt_chain.specs.Shelf.{Shelf}
-use Rattle.mt_meta.specs.Logical.{pair_of}
+use Rattle.mt_chain.specs.Table.{IsListing}
+use Rattle.mt_meta.specs.Logical.{Pair, pair_of}
+use Rattle.mt_meta.specs.Sound.{IsSound}
+use Rattle.mt_meta.specs.Steps.{logical_table}
+use Rattle.mt_open.specs.Opening.{IsDamagedAt}
 use Rattle.mt_world.specs.Worlds.{WorldState, IsReplayed}
-use Rattle.mt_world.specs.Opening.{IsFresh}
 use Rattle.mt_front.specs.Items.{Item, faults_of}
 use Rattle.mt_front.specs.Answers.{FitsConnection}
 use Rattle.mt_front.specs.Session.{Sent, Cut, past_of, Course, IsCourse, AtInputEnd, AtClose, IsRefused, AtReadFault, AtWriteFault, AtNoMemory}
+use Rattle.mt_top.specs.Lines.{damage_line}
 use Rattle.mt_top.specs.declared.running.Ending.{Ending}
-use Rattle.mt_top.specs.declared.running.Ending.TheVariants.{Served, BadWords, ReadFault, WriteFault, StoreFault, Occupied, BadInput, NoMemory}
+use Rattle.mt_top.specs.declared.running.Ending.TheVariants.{Served, BadWords, ReadFault, WriteFault, StoreFault, Damaged, BadInput, NoMemory}
 
 -- the one word `session`
 abbrev pub is_session : {A : Type 0} → List (String A) → Bool
@@ -22,17 +26,16 @@ is_session words = false
 abbrev pub usage : List ℕ
 usage = codes "usage: mtable session|drill|serve [options]\n"
 
--- what is served: a table of that name, which had these rows at the start, over stores of these numbers, with a history of at most so many entries
+-- what is served: a table of that name, over stores of these numbers, with a history of at most so many entries
 pub record Service : Type 0 where
   pub table : List ℕ
-  pub base : List Entity
   pub old_number : ℕ
   pub new_number : ℕ
   pub limit : ℕ
 
--- `Orders` without rows, over the stores 0 and 1
+-- `Orders`, over the stores 0 and 1
 abbrev pub orders : Service
-orders = record { table = codes "Orders"; base = []; old_number = 0; new_number = 1; limit = 1048576 }
+orders = record { table = codes "Orders"; old_number = 0; new_number = 1; limit = 1048576 }
 
 -- the status of each ending
 abbrev pub code_of : Ending → ℕ
@@ -41,7 +44,7 @@ code_of BadWords = 2
 code_of ReadFault = 3
 code_of WriteFault = 4
 code_of StoreFault = 5
-code_of Occupied = 6
+code_of Damaged = 6
 code_of BadInput = 7
 code_of NoMemory = 9
 
@@ -51,7 +54,7 @@ is_bad_words Served = false
 is_bad_words ReadFault = false
 is_bad_words WriteFault = false
 is_bad_words StoreFault = false
-is_bad_words Occupied = false
+is_bad_words Damaged = false
 is_bad_words BadInput = false
 is_bad_words NoMemory = false
 
@@ -73,9 +76,13 @@ pub record Idle (s : Input) (o : Output) (c : Tellings) (t : Input) (x : Output)
   pub old_same : Along Same c.old_before c.old_after
   pub new_same : Along Same c.new_before c.new_after
 
--- a store has a row or is sealed
-abbrev pub NotFresh : Option Contents → Option Contents → Type 0
-NotFresh before after = Along (λ a b. IsFresh a → ⊥) before after
+-- where both stores tell before the run and after it
+abbrev pub WhereTold : Tellings → (Contents → Contents → Contents → Contents → Type 0) → Type 0
+WhereTold c Q = IfSome c.old_before (λ a. IfSome c.new_before (λ a'. IfSome c.old_after (λ b. IfSome c.new_after (λ b'. Q a a' b b'))))
+
+-- two stores that are served and hold this
+abbrev pub served_pair : Service → Contents → Contents → Pair
+served_pair v old new = pair_of v.old_number v.new_number old new
 
 -- both stores tell before the run and after it
 pub record AllTell (c : Tellings) : Type 0 where
@@ -86,13 +93,16 @@ pub record AllTell (c : Tellings) : Type 0 where
 
 -- a world of what is served, with its history from the start on
 pub record IsWorldOf (v : Service) (w : WorldState) : Type 0 where
-  pub base : w.base ≡ v.base
   pub limit : w.history.limit ≡ v.limit
   pub first : w.history.first ≡ 0
 
+-- at the start the two stores were a sound pair, and the world's table then is what clients see of it
+abbrev pub IsOpened : Service → WorldState → Contents → Contents → Type 0
+IsOpened v w old new = IsSound (served_pair v old new) × IsListing w.base (logical_table (served_pair v old new))
+
 -- the two stores hold what the world's history made of the table at the start: the pair is sound, the history legal, and what clients see is its replay
 abbrev pub IsReplay : Service → WorldState → Contents → Contents → Type 0
-IsReplay v w old new = IsReplayed w (pair_of v.old_number v.new_number old new)
+IsReplay v w old new = IsReplayed w (served_pair v old new)
 
 -- what was read and written, and what is left of the input, by the ending
 abbrev pub Wrote : Input → Output → Ending → Course → Input → Output → Type 0
@@ -101,7 +111,7 @@ Wrote s o BadWords c t x = ⊥
 Wrote s o ReadFault c t x = AtReadFault s o c t x
 Wrote s o WriteFault c t x = AtWriteFault s o c t x
 Wrote s o StoreFault c t x = ⊥
-Wrote s o Occupied c t x = ⊥
+Wrote s o Damaged c t x = ⊥
 Wrote s o BadInput c t x = (owed : List ℕ) × IsRefused s c t owed × Sent o owed x
 Wrote s o NoMemory c t x = AtNoMemory o c x
 
@@ -109,7 +119,7 @@ Wrote s o NoMemory c t x = AtNoMemory o c x
 abbrev pub FaultsRose : ℕ → List Item → ℕ → Type 0
 FaultsRose before items now = (before + faults_of items ≤ now) ⊎ (2 ^ 64 - 1 ≤ now)
 
--- both stores were found without a row and not sealed; the requests are the bytes, in order, up to what is left; there is a world whose history they fit, which has nothing else; and the stores hold what it made of the table
+-- the two stores were opened as a sound pair; the requests are the bytes, in order, up to what is left; there is a world whose history they fit, which has nothing else; and the stores hold what it made of the table
 pub record During (v : Service) (s : Input) (o : Output) (ending : Ending) (c : Tellings) (before now : ℕ) (t : Input) (x : Output) : Type 0 where
   pub course : Course
   pub world : WorldState
@@ -117,10 +127,21 @@ pub record During (v : Service) (s : Input) (o : Output) (ending : Ending) (c : 
   pub is_course : IsCourse v.table s course
   pub answered : FitsConnection 0 (AllTell c) (past_of world) 0 course.items []
   pub own : All (λ e. e.caller ≡ 0) world.history.entries
-  pub fresh : Along (λ a b. IsFresh a) c.old_before c.old_after × Along (λ a b. IsFresh a) c.new_before c.new_after
-  pub replayed : IfSome c.old_before (λ a. IfSome c.new_before (λ a'. IfSome c.old_after (λ b. IfSome c.new_after (λ b'. IsReplay v world b b'))))
+  pub opened : WhereTold c (λ a a' b b'. IsOpened v world a a')
+  pub replayed : WhereTold c (λ a a' b b'. IsReplay v world b b')
   pub caused : FaultsRose before course.items now
   pub wrote : Wrote s o ending course t x
+
+-- the two stores were no sound pair, and this is their first damage: its line was written, or a first part of it; nothing was read, and both stores are as before
+pub record AtDamage (v : Service) (s : Input) (o : Output) (c : Tellings) (t : Input) (x : Output) : Type 0 where
+  pub store : ℕ
+  pub key : Key
+  pub rule : ℕ
+  pub source : t ≡ s
+  pub wrote : Sent o (damage_line store key rule) x ⊎ Cut o (damage_line store key rule) x
+  pub old_same : Along Same c.old_before c.old_after
+  pub new_same : Along Same c.new_before c.new_after
+  pub damaged : WhereTold c (λ a a' b b'. IsDamagedAt (served_pair v a a') store key rule)
 
 -- what each ending says; a store fails the run only while it is opened
 abbrev pub RunEnds : Service → Input → Output → Ending → Tellings → ℕ → ℕ → Input → Output → Type 0
@@ -129,7 +150,7 @@ RunEnds v s o BadWords c before now t x = (t ≡ s) × (Sent o usage x ⊎ Cut o
 RunEnds v s o ReadFault c before now t x = During v s o ReadFault c before now t x
 RunEnds v s o WriteFault c before now t x = During v s o WriteFault c before now t x
 RunEnds v s o StoreFault c before now t x = Idle s o c t x × Rose before now
-RunEnds v s o Occupied c before now t x = Idle s o c t x × (NotFresh c.old_before c.old_after ⊎ NotFresh c.new_before c.new_after)
+RunEnds v s o Damaged c before now t x = AtDamage v s o c t x
 RunEnds v s o BadInput c before now t x = During v s o BadInput c before now t x
 RunEnds v s o NoMemory c before now t x = Idle s o c t x ⊎ During v s o NoMemory c before now t x
 

@@ -1,12 +1,15 @@
-ghost use Rattle.std.specs.Prelude.{◌≡◌, ℕ, false, true};
+ghost use Rattle.std.specs.Prelude.{◌≡◌, ◌⊎◌, ℕ, false, true};
+ghost use Rattle.mt_front.specs.Session.{Sent, Cut};
 ghost use Rattle.mt_top.specs.Run.{is_session, orders, code_of, Runs};
-ghost use Rattle.mt_top.specs.Endings.{ending_at, ending_of, depot_ending, opening_ending, Over, OverDepot};
+ghost use Rattle.mt_top.specs.Endings.{ending_at, ending_of, depot_ending, Refuses, Over, OverDepot};
 
+use crate::line::damage_line;
 use mt_chain::{Depot, DepotFault, Keeper};
 use mt_front::{ConnFault, End, Served, session};
 use mt_io::{Sink, Source, send};
-use mt_model::Text;
-use mt_world::{NotOpened, OpenFault, Stores, World};
+use mt_model::{NoMemory, Text};
+use mt_open::OpenFault;
+use mt_world::{NotOpened, Stores, World};
 use std::alloc::Global;
 
 #[cfg(test)]
@@ -24,8 +27,9 @@ const HISTORY_LIMIT: u64 = 1_048_576;
 ///
 /// 0: the input was whole requests to its end, or to one that ended the connection, and each was
 /// answered. 2: the words are no command. 3: a read failed. 4: a write failed. 5: the depot or a store
-/// failed while the stores were opened. 6: a store has a row or is sealed at the start. 7: the input
-/// had something else than a whole request within the limits. 9: the allocator had no memory.
+/// failed while the stores were opened. 6: the stores are no sound pair, and their first damage was
+/// named by a line. 7: the input had something else than a whole request within the limits. 9: the
+/// allocator had no memory.
 #[derive(Clone, Copy, Debug, PartialEq, Eq)]
 pub struct Status {
     pub code: u8,
@@ -44,8 +48,8 @@ pub enum Ending {
     WriteFault,
     /// The depot or a store failed while the stores were opened.
     StoreFault,
-    /// A store has a row or is sealed at the start.
-    Occupied,
+    /// The stores are no sound pair.
+    Damaged,
     /// The input had something else than a whole request within the limits.
     BadInput,
     /// The allocator had no memory.
@@ -62,7 +66,7 @@ impl Ending {
             Ending::ReadFault => 3,
             Ending::WriteFault => 4,
             Ending::StoreFault => 5,
-            Ending::Occupied => 6,
+            Ending::Damaged => 6,
             Ending::BadInput => 7,
             Ending::NoMemory => 9,
         }
@@ -110,11 +114,25 @@ fn ending_of_depot(fault: DepotFault) -> Ending
     }
 }
 
-fn ending_of_opening(fault: OpenFault) -> Ending
-    ensures { result ≡ opening_ending fault }
+/// Writes all of these bytes, or a first part of them where a write fails.
+fn say<T: Sink>(sink: &mut T, bytes: &[u8])
+    ensures { Sent (T.output sink.old) bytes.now (T.output sink.new) ⊎ Cut (T.output sink.old) bytes.now (T.output sink.new) }
+{
+    let _ = send(sink, bytes);
+}
+
+/// How the run ends where two stores were not opened, and writes the line that names a damage.
+fn refuse<T: Sink>(alloc: Global, fault: OpenFault, sink: &mut T) -> Ending
+    ensures { Refuses (T.output sink.old) fault result (T.output sink.new) }
 {
     match fault {
-        OpenFault::NotEmpty { .. } => Ending::Occupied,
+        OpenFault::Damaged { store, key, rule } => match damage_line(alloc, store, &key, rule) {
+            Ok(line) => {
+                say(sink, line.as_slice());
+                Ending::Damaged
+            }
+            Err(NoMemory) => Ending::NoMemory,
+        },
         OpenFault::StoreFault => Ending::StoreFault,
         OpenFault::NoMemory => Ending::NoMemory,
     }
@@ -140,7 +158,7 @@ fn over_stores<K: Keeper, S: Source, T: Sink>(
             let served = session(alloc, &mut world, table, source, sink);
             (ending_of(served), world.into_stores())
         }
-        Err(NotOpened { fault, old, new }) => (ending_of_opening(fault), Stores { old, new }),
+        Err(NotOpened { fault, old, new }) => (refuse(alloc, fault, sink), Stores { old, new }),
     }
 }
 
@@ -175,9 +193,13 @@ fn over_depot<S: Source, T: Sink, D: Depot>(
 }
 
 /// Runs the program with these words: `session` reads requests on the table `Orders` from the source
-/// and writes their replies to the sink, over the stores 0 and 1 of the depot, which begin
-/// without rows. The history takes at most 1,048,576 entries. Every store that was opened is handed
-/// back.
+/// and writes their replies to the sink, over the stores 0 and 1 of the depot, which may hold the rows
+/// of any sound pair. The history takes at most 1,048,576 entries. Every store that was opened is
+/// handed back.
+///
+/// Stores that are no sound pair are left as they are: the line `damaged store=S rule=R pk=HEX rk=HEX`
+/// is written, with the number of the store and of the rule, and the bytes of the key in hexadecimal,
+/// in lower case. Nothing is read then, and a failure of that write is ignored.
 pub fn run<S: Source, T: Sink, D: Depot>(
     alloc: Global,
     words: &[String],
@@ -191,7 +213,7 @@ pub fn run<S: Source, T: Sink, D: Depot>(
     let ending = if asks_for_session(words) {
         over_depot(alloc, source, sink, depot)
     } else {
-        let _ = send(sink, USAGE);
+        say(sink, USAGE);
         Ending::BadWords
     };
     Status {

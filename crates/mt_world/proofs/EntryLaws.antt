@@ -29,7 +29,6 @@ use Rattle.mt_meta.specs.Facts.{Grows}
 use Rattle.mt_meta.specs.Steps.{logical_table, IsGiven, ActorStep}
 use Rattle.mt_meta.proofs.Actors.{retired_on, given_on, fresh_given, not_given}
 use Rattle.mt_batch_plan.specs.BatchSteps.{IsWritten}
-use Rattle.mt_batch_plan.specs.Unmoved.{IsUnmoved}
 use Rattle.mt_world.specs.Worlds.{WorldState, IsReplayed, window_of, table_now, next_number, number_due, after_last, entry_of}
 use Rattle.mt_world.specs.Logs.{entries_with}
 use Rattle.mt_world.specs.Moves.{NewEntry}
@@ -151,7 +150,6 @@ pub record IsStepped (w w' : WorldState) (own own' : List Fact) (p q : Pair) (en
   pub below : p.old_number < p.new_number
   pub due : (caller : ℕ) → next_number w.numbers caller ≡ number_due w.history.entries caller
   pub step : ActorStep own own' w.retired w'.retired (EntryDoes entry) p q
-  pub unmoved : IsUnmoved q
 
 pub replay_on : (w w' : WorldState) (caller : ℕ) (own own' : List Fact) (p q : Pair) (entry : Option NewEntry) → w'.history.entries ≡ entries_with w.history.entries w.numbers caller entry → IsReplayed w p → IsStepped w w' own own' p q entry → IsReplayed w' q
 replay_on w w' caller own own' p q None entries h s = record {
@@ -161,7 +159,6 @@ replay_on w w' caller own own' p q None entries h s = record {
   given_before = subst (λ base. (tag : Tag) → HasTag (table_of (rows_of base)) tag → IsGiven q tag) (sym s.same.base) (λ tag has. given_on own p q tag s.step.grows (h.given_before tag has));
   given_since = subst (λ es. All (IsGiven q) (all_tags es)) (sym entries) (λ k d l. given_on own p q _ s.step.grows (h.given_since k d l));
   retired = retired_on own own' w.retired w'.retired (EntryDoes None) p q s.step h.retired;
-  unmoved = s.unmoved;
 }
 replay_on w w' caller own own' p q (Some x) entries h s =
     let e = entry_of w.numbers caller x.what in
@@ -173,7 +170,6 @@ replay_on w w' caller own own' p q (Some x) entries h s =
       given_since = subst (λ es. All (IsGiven q) (all_tags es)) (sym entries)
           (subst (All (IsGiven q)) (sym (tags_grow w.history.entries e)) (All-append (IsGiven q) (all_tags w.history.entries) (entry_tags x.what) (λ k d l. given_on own p q _ s.step.grows (h.given_since k d l)) (says_given x.what own p q s.step.grows s.step.does.0)));
       retired = retired_on own own' w.retired w'.retired (EntryDoes (Some x)) p q s.step h.retired;
-      unmoved = s.unmoved;
     }
 
 -- ---- counts of faults

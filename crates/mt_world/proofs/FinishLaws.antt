@@ -14,13 +14,11 @@ use Rattle.mt_history.specs.declared.entry.Entry.{Entry}
 use Rattle.mt_history.specs.Weight.{total_weight}
 use Rattle.mt_history.specs.Window.{table_at_end}
 use Rattle.mt_history.specs.Replies.{Replies}
-use Rattle.mt_batch_plan.specs.declared.place.Place.TheVariants.{ReadOld}
 use Rattle.mt_batch_plan.specs.declared.call.BatchProgress.{BatchProgress}
 use Rattle.mt_batch_plan.specs.declared.call.BatchProgress.TheVariants as batch
-use Rattle.mt_batch_plan.specs.Calls.{Call, Asks, Absorbs, is_write}
-use Rattle.mt_batch_plan.specs.Unmoved.{StandsOn}
-use Rattle.mt_batch_plan.proofs.ReplyLaws.{done_ends}
-use Rattle.mt_batch_plan.proofs.UnmovedLaws.{read_stands, write_done}
+use Rattle.mt_batch_plan.specs.Calls.{Call, Asks, Absorbs}
+use Rattle.mt_batch_plan.specs.Alone.{StandsOn, turns_before}
+use Rattle.mt_batch_plan.proofs.AloneLaws.{step_stands, few_before}
 use Rattle.mt_world.specs.declared.actor.ClientCall.TheVariants as client
 use Rattle.mt_world.specs.declared.actor.Actor.{Actor}
 use Rattle.mt_world.specs.declared.actor.Actor.TheVariants.{Client}
@@ -97,60 +95,43 @@ told_is : (o : Option Contents) → is_some o ≡ true → (c : Contents) × (o 
 told_is None e = absurd cc
 told_is (Some c) e = (c, refl)
 
--- after the read the call stands on what old holds
-abbrev pub AtWrite : WorldState → Actor → Type 0
-AtWrite w (Client (client.Batch call)) = (is_write call.place ≡ true) × ForPair w (λ p. StandsOn p call.batch call.place)
-AtWrite w (Client client.Ended) = ⊥
-
--- where a call is after as many turns
+-- where a call is after as many turns: it has at least as many behind it at its place, and stands
 abbrev pub StandsAt : ℕ → WorldState → Actor → Type 0
-StandsAt zero w a = IsAtBegin a
-StandsAt (suc zero) w a = AtWrite w a
-StandsAt (suc (suc n)) w a = ⊥
+StandsAt n w (Client (client.Batch call)) = (n ≤ turns_before call.place) × ForPair w (λ p. StandsOn p call.batch call.place)
+StandsAt n w (Client client.Ended) = ⊥
 
-read_then : (w w' : WorldState) (call : Call) (entry : Option NewEntry) (a' : Actor) → IsWorld w → ActorFits (Client (client.Batch call)) → call.place ≡ ReadOld → IsSameWorld w w' → GoesOn call w w' entry a' → Tells w' → AtWrite w' a'
-read_then w w' call entry a' world fits begin same g tells = subst (AtWrite w') (sym g.after) (
-  at_write,
+begins : (w : WorldState) (a : Actor) → IsAtBegin a → StandsAt 0 w a
+begins w (Client (client.Batch call)) begin = (omega arith, for_pair w (λ p. StandsOn p call.batch call.place) (λ a b ea eb. subst (StandsOn (pair_of w a b) call.batch) (sym begin) tt))
+begins w (Client client.Ended) begin = absurd begin
+
+batch_on : (n : ℕ) (w w' : WorldState) (call : Call) (entry : Option NewEntry) (a' : Actor) → IsWorld w → ActorFits (Client (client.Batch call)) → StandsAt n w (Client (client.Batch call)) → IsSameWorld w w' → GoesOn call w w' entry a' → Tells w' → StandsAt (suc n) w' a'
+batch_on n w w' call entry a' world fits at same g tells = subst (StandsAt (suc n) w') (sym g.after) (
+  later,
   for_pair w' (λ p. StandsOn p g.to.batch g.to.place) (λ a b ea eb.
       subst (λ p. StandsOn p g.to.batch g.to.place) (sym (same_pair w w' same a b)) (subst (λ ops. StandsOn (pair_of w a b) ops g.to.place) (sym g.same_ops) (step a b ea eb).1)),
 ) where
-  asks : Asks call.batch ReadOld g.ask
-  asks = subst (λ pl. Asks call.batch pl g.ask) begin g.asks
-
-  absorbs : Absorbs call.batch ReadOld g.answer (Ok batch.More) g.to.place
-  absorbs = subst (λ pl. Absorbs call.batch pl g.answer (Ok batch.More) g.to.place) begin g.absorbs
-
-  step : (a b : Contents) → w'.old_store.told ≡ Some a → w'.new_store.told ≡ Some b → (is_write g.to.place ≡ true) × StandsOn (pair_of w a b) call.batch g.to.place
+  step : (a b : Contents) → w'.old_store.told ≡ Some a → w'.new_store.told ≡ Some b → (turns_before call.place < turns_before g.to.place) × StandsOn (pair_of w a b) call.batch g.to.place
   step a b ea eb =
       let k = before w w' g.ask.side g.ask.ask g.answer a b ea eb g.one.on in
       let r = at_pair w (IsReplayed w) k.a k.b k.old k.new world.replayed in
-      read_stands call.batch g.to.place g.ask g.answer (pair_of w k.a k.b) (pair_of w a b) fits.batch r.sound r.unmoved.at_use_old asks k.means absorbs
+      let stands = at_pair w (λ p. StandsOn p call.batch call.place) k.a k.b k.old k.new at.1 in
+      step_stands call.batch call.place g.to.place g.ask g.answer (pair_of w k.a k.b) (pair_of w a b) fits.batch fits.place r.sound stands g.asks k.means g.absorbs
 
-  at_write : is_write g.to.place ≡ true
-  at_write = (let x = told_is w'.old_store.told tells.old in let y = told_is w'.new_store.told tells.new in (step x.0 y.0 x.1 y.1).0)
-
--- a write that stands is done, and does not go on
-write_ends : (w w' : WorldState) (call : Call) (entry : Option NewEntry) (a' : Actor) → IsWorld w → ActorFits (Client (client.Batch call)) → AtWrite w (Client (client.Batch call)) → GoesOn call w w' entry a' → Tells w' → ⊥
-write_ends w w' call entry a' world fits at g tells =
-    let x = told_is w'.old_store.told tells.old in
-    let y = told_is w'.new_store.told tells.new in
-    let k = before w w' g.ask.side g.ask.ask g.answer x.0 y.0 x.1 y.1 g.one.on in
-    let r = at_pair w (IsReplayed w) k.a k.b k.old k.new world.replayed in
-    let stands = at_pair w (λ p. StandsOn p call.batch call.place) k.a k.b k.old k.new at.1 in
-    done_ends call.batch call.place g.to.place g.answer at.0
-    (write_done call.batch call.place g.ask g.answer (pair_of w k.a k.b) (pair_of w x.0 y.0) fits.batch fits.place r.sound r.unmoved.at_use_old at.0 stands g.asks k.means) g.absorbs
+  later : suc n ≤ turns_before g.to.place
+  later =
+      let x = told_is w'.old_store.told tells.old in
+      let y = told_is w'.new_store.told tells.new in
+      let so_far = at.0 in
+      let more = (step x.0 y.0 x.1 y.1).0 in
+      omega (arith, so_far, more)
 
 pub stands_on : (n : ℕ) (w w' : WorldState) (caller : ℕ) (a a' : Actor) (entry : Option NewEntry) → IsWorld w → StandsAt n w a → Turns w caller a (Ok More) entry w' a' → Tells w' → StandsAt (suc n) w' a'
-stands_on zero w w' caller (Client (client.Batch call)) a' entry world at t tells = read_then w w' call entry a' world t.fits at t.same (goes_on w w' call entry a' t.moves) tells
-stands_on zero w w' caller (Client client.Ended) a' entry world at t tells = absurd at
-stands_on (suc zero) w w' caller (Client (client.Batch call)) a' entry world at t tells = write_ends w w' call entry a' world t.fits at (goes_on w w' call entry a' t.moves) tells
-stands_on (suc zero) w w' caller (Client client.Ended) a' entry world at t tells = absurd at
-stands_on (suc (suc n)) w w' caller a a' entry world at t tells = absurd at
+stands_on n w w' caller (Client (client.Batch call)) a' entry world at t tells = batch_on n w w' call entry a' world t.fits at t.same (goes_on w w' call entry a' t.moves) tells
+stands_on n w w' caller (Client client.Ended) a' entry world at t tells = absurd at
 
-stands_few : (n : ℕ) (w : WorldState) (a : Actor) → StandsAt n w a → n ≤ 1
-stands_few zero w a h = omega arith
-stands_few (suc zero) w a h = omega arith
-stands_few (suc (suc n)) w a h = absurd h
+stands_few : (n : ℕ) (w : WorldState) (a : Actor) → StandsAt n w a → n ≤ 2
+stands_few n w (Client (client.Batch call)) h = (let so_far = h.0 in let few = few_before call.place in omega (arith, so_far, few))
+stands_few n w (Client client.Ended) h = absurd h
 
 -- ---- the turns of a call so far
 
@@ -161,7 +142,7 @@ pub record Went (w : WorldState) (caller : ℕ) (a : Actor) (m : WorldState) (b 
   pub stands : IsAtBegin a → Tells m → StandsAt (length marks) m b
 
 pub went_none : (w : WorldState) (caller : ℕ) (a : Actor) → Went w caller a w a
-went_none w caller a = record { marks = []; rest = λ next more r w' f. f; stands = λ begin tells. begin }
+went_none w caller a = record { marks = []; rest = λ next more r w' f. f; stands = λ begin tells. begins w a begin }
 
 abbrev mark_of : WorldState → Option NewEntry → Mark
 mark_of w entry = record { place = end_of w; entry = entry }
@@ -174,7 +155,7 @@ went_more w m m' caller a b b' entry world g t = record {
       (stands_on (length g.marks) m m' caller b b' entry world (g.stands begin (t.tells tells)) t tells);
 }
 
-at_most : (a : Actor) → IsAtBegin a → (n : ℕ) → n ≤ 1 → n + 1 ≤ turns_at_most a
+at_most : (a : Actor) → IsAtBegin a → (n : ℕ) → n ≤ 2 → n + 1 ≤ turns_at_most a
 at_most (Client (client.Batch call)) begin n few = omega (arith, few)
 at_most (Client client.Ended) begin n few = absurd begin
 

@@ -1,140 +1,165 @@
--- Two stores without rows are a world without history.
-use Rattle.std.proofs.Common.{◌≡◌, ◌≢◌, ◌∙◌, ℕ, ◌+◌, ◌≤◌, Bool, true, false, cond, List, [], ◌∷◌, refl, sym, ap, subst, arith, inl, bytes_eq, ◌||◌, All, IsTrue, Option, Some, None}
-use Rattle.std.specs.Prelude.{option_map, is_none, not, ◌&&◌, Ok}
-use Rattle.mt_chain.specs.declared.query.PkFrom.{PkFrom}
-use Rattle.mt_chain.specs.declared.query.PkFrom.TheVariants as start
-use Rattle.mt_chain.specs.declared.query.Next.{Next}
-use Rattle.mt_chain.specs.Rows.{Rows, has_partition, is_past}
-use Rattle.mt_chain.specs.StoreCall.{Contents, IsNext}
-use Rattle.mt_chain.specs.Store.{Store, Onward, Same, Counted, NextShows}
-use Rattle.mt_chain.specs.Rows.{are_rising}
-use Rattle.mt_chain.specs.Table.{table_of, rows_of}
-use Rattle.mt_chain.proofs.KeyLaws.{text_same}
+-- Two stores that are a sound pair are a world without history, whose table at opening is what they show.
+use Rattle.std.proofs.Common.{◌≡◌, ◌∙◌, ◌⊎◌, ℕ, ◌+◌, ◌≤◌, Bool, true, false, cond, ◌==◌, List, [], ◌∷◌, length, refl, sym, ap, subst, arith, inl, inr, bytes_eq, All, IsTrue, Option, Some, None, Ok, IfSome}
+use Rattle.std.specs.Prelude.{option_map, codes}
+use Rattle.std.proofs.lemmas.Bool.{and_parts}
+use Rattle.std.proofs.lemmas.Bool.Decides.{nat_tests}
+use Rattle.mt_model.specs.declared.entity.Entity.{Entity}
+use Rattle.mt_model.specs.declared.tag.Tag.{Tag}
+use Rattle.mt_model.specs.declared.name.Hidden.TheVariants as hidden
+use Rattle.mt_model.specs.Props.{hidden_text}
+use Rattle.mt_chain.specs.declared.row.Stored.{Stored}
+use Rattle.mt_chain.specs.Rows.{Rows, row_at, are_rising}
+use Rattle.mt_chain.specs.StoreCall.{Contents}
+use Rattle.mt_chain.specs.Store.{Store}
+use Rattle.mt_chain.specs.Table.{IsListing, table_of, rows_of}
 use Rattle.mt_history.specs.Window.{replay}
-use Rattle.mt_history.specs.Legal.{all_tags}
+use Rattle.mt_history.specs.Legal.{HasTag, all_tags}
 use Rattle.mt_history.proofs.WindowLaws.{nothing_is_legal}
+use Rattle.mt_meta.specs.declared.mark.Mark.{Mark}
+use Rattle.mt_meta.specs.declared.mark.Mark.TheVariants.{Live, Copy, Tomb}
 use Rattle.mt_meta.specs.Markers.{marker_key}
-use Rattle.mt_meta.specs.Logical.{Pair}
-use Rattle.mt_meta.specs.Sound.{IsSound}
-use Rattle.mt_meta.specs.Steps.{as_row, IsGiven}
+use Rattle.mt_meta.specs.Marks.{mark_of, kept_tag, seen_in, seen_tag}
+use Rattle.mt_meta.specs.Logical.{Pair, Shown, OldState, NoOld, AtUseOld, AtPreferOld, AtPreferNew, BadOld, NewState, NoNew, AtFilling, AtUseNew, BadNew, shown_as, shown_with, from_old, new_by, from_new, filling_by, from_both, row_by, logical, old_at, new_at, old_state_at, new_state_at}
+use Rattle.mt_meta.specs.Sound.{IsSound, IsKept}
+use Rattle.mt_meta.specs.Steps.{as_row, logical_table, IsEmptied, IsGiven}
+use Rattle.mt_open.specs.Opening.{OpensPair, is_emptied}
 use Rattle.mt_world.specs.Worlds.{WorldState, IsReplayed, IsWorld, window_of, pair_of, faults_in, next_number, number_due}
-use Rattle.mt_world.specs.Opening.{IsFresh, Stays, shows_nothing, Looks}
-use Rattle.mt_world.proofs.PairLaws.{for_pair, told_before, same_onward}
+use Rattle.mt_world.proofs.PairLaws.{for_pair, at_pair}
 use Rattle.mt_world.proofs.EntryLaws.{no_tags}
 
--- ---- one store
+-- ---- the tags that clients see of a sound pair were given
 
-pub stays_self : (s : Store) → Stays s s
-stays_self s = record { number = refl; calls = omega arith; faults = omega arith; contents = same_onward s.told }
+-- the tag that is seen of a row of old is its own, or the one that it keeps
+seen_from : (kind : Option (List ℕ)) (kept : Option Tag) (own tag : Tag) → seen_in kind kept own ≡ Some tag → (tag ≡ own) ⊎ (kept ≡ Some tag)
+seen_from None kept own tag e = inl (let same : tag ≡ own = cc in same)
+seen_from (Some kind) kept own tag e = go (bytes_eq kind (codes "live")) e where
+  go : (b : Bool) → cond b (Some own) kept ≡ Some tag → (tag ≡ own) ⊎ (kept ≡ Some tag)
+  go true e = inl (let same : tag ≡ own = cc in same)
+  go false e = inr e
 
-pub from_least : (pk : List ℕ) → is_past (start.From []) pk ≡ true
-from_least [] = refl
-from_least (b ∷ pk) = refl
+keeps_tag : (m : Option Mark) (tag : Tag) → kept_tag m ≡ Some tag → m ≡ Some (Copy tag)
+keeps_tag None tag e = absurd cc
+keeps_tag (Some Live) tag e = absurd cc
+keeps_tag (Some (Copy kept)) tag e = (let same : kept ≡ tag = cc in ap (λ t. Some (Copy t)) same)
+keeps_tag (Some Tomb) tag e = absurd cc
 
--- no row where no partition is from the least key on
-pub none_past : (rows : Rows) → IsNext (start.From []) None rows → rows ≡ []
-none_past [] h = refl
-none_past (r ∷ rows) h = absurd (let e = h r.0.pk (from_least r.0.pk) in let own = text_same r.0.pk in let x : true ≡ false = sym (ap (λ b. b || has_partition rows r.0.pk) own) ∙ e in cc)
+shown_tag : (s : Shown) (x : Shown) → Some x ≡ Some s → s.tag ≡ x.tag
+shown_tag s x e = (let same : s ≡ x = cc in ap (λ (y : Shown). y.tag) same)
 
-some_past : (rows : Rows) (pk : List ℕ) → has_partition rows pk ≡ true → rows ≢ []
-some_past rows pk has none = (let x : true ≡ false = sym has ∙ ap (λ rs. has_partition rs pk) none in absurd cc)
+-- new's number is the next one after old's
+module _ (p : Pair) (sound : IsSound p) (next : p.new_number ≡ p.old_number + 1) (pk rk : List ℕ) where
+  own_old : (row : Stored) → old_at p pk rk ≡ Some row → IsGiven p row.tag
+  own_old row is = inl (sound.tags.0.number pk rk row is, (sound.tags.0.range pk rk row is).1)
 
--- what a store shows of its first partition
-shown_fresh : (next : Next) → shows_nothing next ≡ true → (before after : Option Contents)
-    → Onward (λ b a. (a ≡ b) × IsNext (start.From []) next.pk b.rows × (next.sealed ≡ b.sealed)) before after → Onward (λ b a. IsFresh a) before after
-shown_fresh next nothing before None h = tt
-shown_fresh next nothing None (Some a) h = absurd h
-shown_fresh next nothing (Some b) (Some a) h = go next.pk next.sealed nothing h.1 h.2 where
-  go : (pk : Option (List ℕ)) (sealed : Bool) → is_none pk && not sealed ≡ true → IsNext (start.From []) pk b.rows → sealed ≡ b.sealed → IsFresh a
-  go None false n is flag = record { empty = ap (λ c. c.rows) h.0 ∙ none_past b.rows is; unsealed = ap (λ c. c.sealed) h.0 ∙ sym flag }
-  go None true n is flag = absurd (let x : false ≡ true = n in cc)
-  go (Some pk) sealed n is flag = absurd (let x : false ≡ true = n in cc)
+  own_new : (row : Stored) → new_at p pk rk ≡ Some row → IsGiven p row.tag
+  own_new row is = inr (inl (sound.tags.1.number pk rk row is, (sound.tags.1.range pk rk row is).1))
 
-shown_stale : (next : Next) → shows_nothing next ≡ false → (before after : Option Contents)
-    → Onward (λ b a. (a ≡ b) × IsNext (start.From []) next.pk b.rows × (next.sealed ≡ b.sealed)) before after → Onward (λ b a. IsFresh a → ⊥) before after
-shown_stale next something before None h = tt
-shown_stale next something None (Some a) h = absurd h
-shown_stale next something (Some b) (Some a) h = go next.pk next.sealed something h.1 h.2 where
-  go : (pk : Option (List ℕ)) (sealed : Bool) → is_none pk && not sealed ≡ false → IsNext (start.From []) pk b.rows → sealed ≡ b.sealed → IsFresh a → ⊥
-  go None false n is flag fresh = (let x : true ≡ false = n in absurd cc)
-  go None true n is flag fresh = (let x : true ≡ false = flag ∙ sym (ap (λ c. c.sealed) h.0) ∙ fresh.unsealed in absurd cc)
-  go (Some pk) sealed n is flag fresh = some_past b.rows pk is.1 (sym (ap (λ c. c.rows) h.0) ∙ fresh.empty)
+  kept_new : (tag : Tag) → IsKept p p.new_number tag → IsGiven p tag
+  kept_new tag kept = go (tag.store == p.old_number) refl where
+    go : (b : Bool) → (tag.store == p.old_number) ≡ b → IsGiven p tag
+    go true e = (let same : tag.store ≡ p.old_number = grind (arith, nat_tests) in inl (same, kept.given same))
+    go false e = inr (inr (let low = kept.below in let above = next in grind (arith, nat_tests)))
 
-same_after : (next : Next) (before after : Option Contents)
-    → Onward (λ b a. (a ≡ b) × IsNext (start.From []) next.pk b.rows × (next.sealed ≡ b.sealed)) before after → Onward Same before after
-same_after next before None h = tt
-same_after next None (Some a) h = absurd h
-same_after next (Some b) (Some a) h = h.0
+  old_shown : (row : Stored) (s : Shown) → old_at p pk rk ≡ Some row → (seen : Option Tag) → seen_tag row.props row.tag ≡ seen → shown_with row.props seen ≡ Some s → IsGiven p s.tag
+  old_shown row s is None sees e = absurd cc
+  old_shown row s is (Some tag) sees e = subst (IsGiven p) (sym (shown_tag s (shown_as row.props tag) e))
+      (elim (seen_from (hidden_text row.props hidden.Kind) (kept_tag (mark_of row.props)) row.tag tag sees) as (λ _. IsGiven p tag) [
+        | inl own ↦ subst (IsGiven p) (sym own) (own_old row is)
+        | inr kept ↦ inr (inr (sound.tags.2 pk rk row tag is (keeps_tag (mark_of row.props) tag kept)).below)
+      ])
 
-pub looked : (s t : Store) (begin : PkFrom) (next : Next) (nothing : Bool) → begin ≡ start.From [] → Counted s t → t.faults ≡ s.faults → NextShows begin (Ok next) s t → nothing ≡ shows_nothing next → Looks s (Ok nothing) t
-looked s t begin next nothing is counted same shows flag = go nothing flag where
-  h : NextShows (start.From []) (Ok next) s t
-  h = subst (λ at. NextShows at (Ok next) s t) is shows
+  from_old_given : (o : Option Stored) (s : Shown) → old_at p pk rk ≡ o → from_old o ≡ Some s → IsGiven p s.tag
+  from_old_given None s is e = absurd cc
+  from_old_given (Some row) s is e = old_shown row s is (seen_tag row.props row.tag) refl e
 
-  stays : Stays s t
-  stays = record { number = counted.number; calls = counted.grew; faults = counted.faults; contents = same_after next s.told t.told h.2 }
+  entry_given : (row : Stored) (s : Shown) (m : Option Mark) → new_at p pk rk ≡ Some row → mark_of row.props ≡ m → new_by m row ≡ Some s → IsGiven p s.tag
+  entry_given row s None is mark e = absurd cc
+  entry_given row s (Some Live) is mark e = subst (IsGiven p) (sym (shown_tag s (shown_as row.props row.tag) e)) (own_new row is)
+  entry_given row s (Some (Copy kept)) is mark e = subst (IsGiven p) (sym (shown_tag s (shown_as row.props kept) e)) (kept_new kept (sound.tags.3 pk rk row kept is mark))
+  entry_given row s (Some Tomb) is mark e = absurd cc
 
-  go : (b : Bool) → b ≡ shows_nothing next → Looks s (Ok b) t
-  go true e = (stays, same, shown_fresh next (sym e) s.told t.told h.2)
-  go false e = (stays, same, shown_stale next (sym e) s.told t.told h.2)
+  from_new_given : (o : Option Stored) (s : Shown) → new_at p pk rk ≡ o → from_new o ≡ Some s → IsGiven p s.tag
+  from_new_given None s is e = absurd cc
+  from_new_given (Some row) s is e = entry_given row s (mark_of row.props) is refl e
 
--- ---- the pair
+  filling_given : (o : Option Stored) (row : Stored) (s : Shown) (m : Option Mark) → old_at p pk rk ≡ o → new_at p pk rk ≡ Some row → filling_by m row (from_old o) ≡ Some s → IsGiven p s.tag
+  filling_given o row s None low is e = absurd cc
+  filling_given o row s (Some Live) low is e = subst (IsGiven p) (sym (shown_tag s (shown_as row.props row.tag) e)) (own_new row is)
+  filling_given o row s (Some (Copy kept)) low is e = from_old_given o s low e
+  filling_given o row s (Some Tomb) low is e = absurd cc
 
-pub is_empty : (c : Contents) → IsFresh c → c ≡ record { rows = []; sealed = false; counter = c.counter }
-is_empty c fresh i = record { rows = fresh.empty i; sealed = fresh.unsealed i; counter = c.counter }
+  from_both_given : (o n : Option Stored) (s : Shown) → old_at p pk rk ≡ o → new_at p pk rk ≡ n → from_both o n ≡ Some s → IsGiven p s.tag
+  from_both_given o None s low high e = from_old_given o s low e
+  from_both_given o (Some row) s low high e = filling_given o row s (mark_of row.props) low high e
 
-abbrev empty_pair : ℕ → ℕ → ℕ → ℕ → Pair
-empty_pair i j m n = record { old_number = i; new_number = j; old = record { rows = []; sealed = false; counter = m }; new = record { rows = []; sealed = false; counter = n } }
+  by_states : (old : OldState) (new : NewState) (o n : Option Stored) (s : Shown) → old_at p pk rk ≡ o → new_at p pk rk ≡ n → row_by old new o n ≡ Some s → IsGiven p s.tag
+  by_states AtUseOld new o n s low high e = from_old_given o s low e
+  by_states AtPreferOld new o n s low high e = from_old_given o s low e
+  by_states AtPreferNew NoNew o n s low high e = absurd cc
+  by_states AtPreferNew AtFilling o n s low high e = from_both_given o n s low high e
+  by_states AtPreferNew AtUseNew o n s low high e = from_new_given n s high e
+  by_states AtPreferNew BadNew o n s low high e = absurd cc
+  by_states NoOld NoNew o n s low high e = absurd cc
+  by_states NoOld AtFilling o n s low high e = absurd cc
+  by_states NoOld AtUseNew o n s low high e = from_new_given n s high e
+  by_states NoOld BadNew o n s low high e = absurd cc
+  by_states BadOld NoNew o n s low high e = absurd cc
+  by_states BadOld AtFilling o n s low high e = absurd cc
+  by_states BadOld AtUseNew o n s low high e = from_new_given n s high e
+  by_states BadOld BadNew o n s low high e = absurd cc
 
-empty_sound : (i j m n : ℕ) → IsSound (empty_pair i j m n)
-empty_sound i j m n = record {
-  forms = (record { markers = λ pk row is. absurd cc; data_rows = λ pk rk row ne is. absurd cc }, record { markers = λ pk row is. absurd cc; data_rows = λ pk rk row ne is. absurd cc });
-  markers = (λ pk rk some. absurd (some refl), λ pk rk some. absurd (some refl));
-  use_old = λ pk is. absurd cc;
-  prefer_old = λ pk is. absurd cc;
-  prefer_new = λ pk is. absurd cc;
-  no_old = λ pk is. (inl refl, λ rk ne. tt);
-  tags = (
-    record { number = λ pk rk row is. absurd cc; range = λ pk rk row is. absurd cc; differ = λ pk rk a b row other is that same. absurd cc },
-    record { number = λ pk rk row is. absurd cc; range = λ pk rk row is. absurd cc; differ = λ pk rk a b row other is that same. absurd cc },
-    λ pk rk row tag is mark. absurd cc,
-    λ pk rk row tag is mark. absurd cc,
-  );
-  unsealed = refl;
-}
+  shown_given : (s : Shown) → logical p pk rk ≡ Some s → IsGiven p s.tag
+  shown_given s e = go (bytes_eq rk marker_key) e where
+    go : (b : Bool) → cond b None (row_by (old_state_at p pk) (new_state_at p pk) (old_at p pk rk) (new_at p pk rk)) ≡ Some s → IsGiven p s.tag
+    go true e = absurd cc
+    go false e = by_states (old_state_at p pk) (new_state_at p pk) (old_at p pk rk) (new_at p pk rk) s refl refl e
 
-no_row : (b : Bool) → option_map as_row (cond b None None) ≡ None
-no_row true = refl
-no_row false = refl
+-- a row of the table is one that clients see, with its tag
+as_shown : (o : Option Shown) (row : Stored) → option_map as_row o ≡ Some row → (s : Shown) × (o ≡ Some s) × (s.tag ≡ row.tag)
+as_shown None row e = absurd cc
+as_shown (Some s) row e = (let same : as_row s ≡ row = cc in (s, refl, ap (λ (r : Stored). r.tag) same))
 
--- a world without history over two stores without rows
-empty_replayed : (w : WorldState) (m n : ℕ) → w.base ≡ [] → w.history.entries ≡ [] → w.retired ≡ false → IsReplayed w (empty_pair w.old_store.number w.new_store.number m n)
-empty_replayed w m n base entries retired = record {
-  sound = empty_sound w.old_store.number w.new_store.number m n;
+listed_given : (p : Pair) (es : List Entity) → IsSound p → p.new_number ≡ p.old_number + 1 → IsListing es (logical_table p) → (tag : Tag) → HasTag (table_of (rows_of es)) tag → IsGiven p tag
+listed_given p es sound next listing tag has =
+    let s = as_shown (logical p has.0.pk has.0.rk) has.1 (sym (listing.rows has.0) ∙ has.2) in
+    subst (IsGiven p) (s.2 ∙ has.3) (shown_given p sound next has.0.pk has.0.rk s.0 s.1)
+
+-- ---- the world
+
+no_rows : (rows : Rows) → (length rows == 0) ≡ true → (pk rk : List ℕ) → row_at rows pk rk ≡ None
+no_rows [] h pk rk = refl
+no_rows (r ∷ rows) h pk rk = absurd (let some : (length (r ∷ rows) == 0) ≡ false = grind (arith, nat_tests) in let x : true ≡ false = sym h ∙ some in cc)
+
+emptied : (p : Pair) → is_emptied p.old ≡ true → IsEmptied p
+emptied p e = (let both = and_parts p.old.sealed (length p.old.rows == 0) e in record { sealed = both.0; rows = no_rows p.old.rows both.1 })
+
+some_of : (P : Contents → Type 0) (o : Option Contents) (c : Contents) → o ≡ Some c → IfSome o P → P c
+some_of P None c e h = absurd cc
+some_of P (Some d) c e h = (let same : d ≡ c = cc in subst P same h)
+
+-- a world without history over a sound pair
+opened_replayed : (w : WorldState) (p : Pair) → p.new_number ≡ p.old_number + 1 → IsSound p × IsListing w.base (logical_table p) → w.history.entries ≡ [] → (w.retired ≡ is_emptied p.old) → IsReplayed w p
+opened_replayed w p next found entries retired = record {
+  sound = found.0;
   legal = nothing_is_legal (window_of w) entries;
-  table = λ key. no_row (bytes_eq key.rk marker_key) ∙ sym (ap (λ es. replay (table_of (rows_of w.base)) es key) entries ∙ ap (λ rows. table_of (rows_of rows) key) base);
-  given_before = λ tag has. absurd (let x : None ≡ Some has.1 = sym (ap (λ rows. table_of (rows_of rows) has.0) base) ∙ has.2 in cc);
-  given_since = subst (λ es. All (IsGiven (empty_pair w.old_store.number w.new_store.number m n)) (all_tags es)) (sym entries) (no_tags (IsGiven (empty_pair w.old_store.number w.new_store.number m n)));
-  retired = λ r. absurd (let x : true ≡ false = sym r ∙ retired in cc);
-  unmoved = record { at_use_old = record { unsealed = refl; markers = λ pk. inl refl }; nothing_new = λ pk rk. refl };
+  table = λ key. sym (found.1.rows key) ∙ sym (ap (λ es. replay (table_of (rows_of w.base)) es key) entries);
+  given_before = listed_given p w.base found.0 next found.1;
+  given_since = subst (λ es. All (IsGiven p) (all_tags es)) (sym entries) (no_tags (IsGiven p));
+  retired = λ r. emptied p (sym retired ∙ r);
 }
 
-fresh_told : (s : Store) (before : Option Contents) (c : Contents) → s.told ≡ Some c → Onward (λ b after. IsFresh after) before s.told → IsFresh c
-fresh_told s before c is h = (told_before (λ b after. IsFresh after) before s.told c is h).2
-
-pub empty_world : (w : WorldState) (old new : Option Contents) → (w.old_store.number ≡ 0) × (w.new_store.number ≡ 1) → w.base ≡ [] → w.history.first ≡ 0 → w.history.entries ≡ [] → w.history.limit ≤ 1048576
-    → w.numbers ≡ [] → w.fault_entries ≡ 0 → w.generation ≡ 1 → w.retired ≡ false → w.opened_faults ≡ w.old_store.faults + w.new_store.faults
-    → Onward (λ b after. IsFresh after) old w.old_store.told → Onward (λ b after. IsFresh after) new w.new_store.told → IsWorld w
-empty_world w old new numbers base first entries bounded none no_faults generation retired faults old_fresh new_fresh = record {
+pub opened_world : (w : WorldState) (s s' : Store) → (w.old_store.number ≡ 0) × (w.new_store.number ≡ 1) → OpensPair s s' (Ok w.base) w.old_store w.new_store → w.history.first ≡ 0 → w.history.entries ≡ [] → w.history.limit ≤ 1048576
+    → w.numbers ≡ [] → w.fault_entries ≡ 0 → w.generation ≡ 1 → IfSome w.old_store.told (λ c. w.retired ≡ is_emptied c) → w.opened_faults ≡ w.old_store.faults + w.new_store.faults → IsWorld w
+opened_world w s s' numbers opens first entries bounded none no_faults generation retired faults = record {
   numbers = ((let a = numbers.0 in omega (arith, a, generation)), numbers.1 ∙ sym generation);
   whole = first;
   bounded = bounded;
-  rising = subst (λ rows. IsTrue (are_rising (rows_of rows))) (sym base) refl;
-  replayed = for_pair w (IsReplayed w) (λ a b ea eb.
-      let x = is_empty a (fresh_told w.old_store old a ea old_fresh) in
-      let y = is_empty b (fresh_told w.new_store new b eb new_fresh) in
-      subst (λ c. IsReplayed w (pair_of w c b)) (sym x) (subst (λ c. IsReplayed w (pair_of w (record { rows = []; sealed = false; counter = a.counter }) c)) (sym y) (empty_replayed w a.counter b.counter base entries retired)));
+  rising = opens.rising;
+  replayed = for_pair w (IsReplayed w) (λ a b ea eb. opened_replayed w (pair_of w a b) next
+      (at_pair w (λ p. IsSound p × IsListing w.base (logical_table p)) a b ea eb opens.shows) entries (some_of (λ c. w.retired ≡ is_emptied c) w.old_store.told a ea retired));
   due = λ whole caller. ap (λ ns. next_number ns caller) none ∙ sym (ap (λ es. number_due es caller) entries);
   fault_entries = λ whole. no_faults ∙ sym (ap faults_in entries);
   faults = inl (omega (arith, faults, no_faults));
-}
+} where
+  next : w.new_store.number ≡ w.old_store.number + 1
+  next = (let a = numbers.0 in let b = numbers.1 in omega (arith, a, b))

@@ -26,9 +26,7 @@ use Rattle.mt_batch_plan.specs.declared.call.BatchProgress.{BatchProgress}
 use Rattle.mt_batch_plan.specs.declared.call.BatchProgress.TheVariants as batch
 use Rattle.mt_batch_plan.specs.Calls.{Call, CallFits, Asks, place_facts, call_facts}
 use Rattle.mt_batch_plan.specs.BatchSteps.{Does}
-use Rattle.mt_batch_plan.specs.Unmoved.{IsUnmoved}
 use Rattle.mt_batch_plan.proofs.BatchLaw.{batch_law}
-use Rattle.mt_batch_plan.proofs.UnmovedLaws.{unmoved_law}
 use Rattle.mt_world.specs.declared.actor.ClientCall.TheVariants as client
 use Rattle.mt_world.specs.declared.actor.Actor.{Actor}
 use Rattle.mt_world.specs.declared.actor.Actor.TheVariants.{Client}
@@ -88,13 +86,6 @@ pub actor_step : (a : Actor) (ask : StoreAsk) (answer : StoreReply) (move : Move
     → IsSound p → AllHold p retired (actor_facts a) → ActorSteps a retired move p q
 actor_step (Client (client.Batch call)) ask answer move p q retired fits asks means moves sound knows = batch_step call ask answer move p q retired fits asks means moves sound knows
 actor_step (Client client.Ended) ask answer move p q retired fits asks means moves sound knows = absurd asks
-
--- and here: nothing moves yet
-actor_unmoved : (a : Actor) (ask : StoreAsk) (answer : StoreReply) (move : Move) (p q : Pair) (retired : Bool) → ActorFits a → ActorAsks a ask → PairMeans ask answer p q → ActorMoves a answer move
-    → IsSound p → AllHold p retired (actor_facts a) → IsUnmoved p → IsUnmoved q
-actor_unmoved (Client (client.Batch call)) ask answer move p q retired fits asks means moves sound knows unmoved =
-    unmoved_law call.batch call.place moves.to.place ask answer moves.said p q retired fits.batch fits.place sound knows asks means moves.absorbs unmoved
-actor_unmoved (Client client.Ended) ask answer move p q retired fits asks means moves sound knows unmoved = absurd asks
 
 -- a turn that comes to nothing leaves an actor that knows nothing more than before, and the world as retired as it was
 fault_knows : (a : Actor) (p : Pair) (retired : Bool) → AllHold p retired (actor_facts a) → AllHold p retired (actor_facts (after_fault a))
@@ -224,7 +215,6 @@ pub record KeptAndTurned (w : WorldState) (caller : ℕ) (a : Actor) (r : Result
 pub record ToldStep (w w' : WorldState) (a a' : Actor) (entry : Option NewEntry) (p q : Pair) : Type 0 where
   pub replayed : IsReplayed w p
   pub step : ActorStep (actor_facts a) (actor_facts a') w.retired w'.retired (EntryDoes entry) p q
-  pub unmoved : IsUnmoved q
 
 reply_at : (w : WorldState) (entry : Option NewEntry) (w' : WorldState) → ((e : NewEntry) → entry ≡ Some e → ForPair w' (λ p. Replies e.what (table_now w) e.reply)) → RepliesAt w entry w'
 reply_at w None w' h = tt
@@ -259,7 +249,7 @@ stepped_turn w w' caller a a' r entry world frame tells counted takes steps = re
   replayed : ForPair w' (IsReplayed w')
   replayed = for_pair w' (IsReplayed w') (λ a1 b1 ea eb. (let s = steps a1 b1 ea eb in let t = s.4 in subst (IsReplayed w') (sym (same_pair w w' same a1 b1))
       (replay_on w w' caller (actor_facts a) (actor_facts a') (pair_of w s.0 s.1) (pair_of w a1 b1) entry takes.adds.entries t.replayed
-      (record { same = same; below = stores_below w world; due = world.due world.whole; step = t.step; unmoved = t.unmoved }))))
+      (record { same = same; below = stores_below w world; due = world.due world.whole; step = t.step }))))
 
   replies : (e : NewEntry) → entry ≡ Some e → ForPair w' (λ p. Replies e.what (table_now w) e.reply)
   replies e is = by_step (λ p. Replies e.what (table_now w) e.reply) (λ p q t. (let d = subst (λ x. EntryDoes x p q) is t.step.does in replies_same e.what (logical_table p) (table_now w) e.reply t.replayed.table d.1))
@@ -284,7 +274,6 @@ quiet_step w w' a entry p h knows same does = record {
     retires = λ r. inl (sym same ∙ r);
     does = does;
   };
-  unmoved = h.unmoved;
 }
 
 quiet_steps : (w w' : WorldState) (a : Actor) (entry : Option NewEntry) → IsWorld w → Knows w a → w'.retired ≡ w.retired → IsQuiet w w' → ((p : Pair) → EntryDoes entry p p)
@@ -374,7 +363,6 @@ ok_turn w w' caller a a' progress entry world knows frame takes =
               replayed = h;
               step = subst (λ r. ActorStep (actor_facts a) (actor_facts a') w.retired r (EntryDoes entry) (pair_of w k.a k.b) (pair_of w a1 b1)) (sym frame.retired)
                   (actor_step a ask answer (record { progress = progress; entry = entry; after = a' }) (pair_of w k.a k.b) (pair_of w a1 b1) w.retired takes.fits asks k.means moves h.sound knows_of);
-              unmoved = actor_unmoved a ask answer (record { progress = progress; entry = entry; after = a' }) (pair_of w k.a k.b) (pair_of w a1 b1) w.retired takes.fits asks k.means moves h.sound knows_of h.unmoved;
             },
           )
 

@@ -106,7 +106,7 @@ abbrev pub IsAtBegin : Actor → Type 0
 IsAtBegin (Client (client.Batch call)) = call.place ≡ ReadOld
 IsAtBegin (Client client.Ended) = ⊥
 
--- the most turns that a call takes from its beginning while nothing moves and both stores tell: a read and a write
+-- the most turns that a call takes from its beginning while no other actor comes between and both stores tell: a read of each store, and a write
 abbrev pub turns_at_most : Actor → ℕ
-turns_at_most (Client (client.Batch call)) = 2
+turns_at_most (Client (client.Batch call)) = 3
 turns_at_most (Client client.Ended) = 0

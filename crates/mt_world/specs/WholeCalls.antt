@@ -42,7 +42,7 @@ Finishes [] w caller a r w' = ⊥
 Finishes (m ∷ []) w caller a r w' = (after : Actor) × MarkedTurn m w caller a (last_turn r) w' after
 Finishes (m ∷ next ∷ marks) w caller a r w' = (v : WorldState) × (b : Actor) × MarkedTurn m w caller a (Ok More) v b × Finishes (next ∷ marks) v caller b r w'
 
--- turns that end a call; one that begins takes few while nothing moves and both stores tell
+-- turns that end a call; one that begins takes few where both stores tell
 pub record EndsCall (w : WorldState) (caller : ℕ) (a : Actor) (r : Result Answer TurnFault) (w' : WorldState) : Type 0 where
   pub marks : List Mark
   pub turns : Finishes marks w caller a r w'

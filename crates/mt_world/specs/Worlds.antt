@@ -20,7 +20,6 @@ use Rattle.mt_meta.specs.Sound.{IsSound}
 use Rattle.mt_meta.specs.declared.fact.Fact.{Fact}
 use Rattle.mt_meta.specs.Facts.{Holds, ApartFrom}
 use Rattle.mt_meta.specs.Steps.{logical_table, AllHold, IsEmptied, IsGiven}
-use Rattle.mt_batch_plan.specs.Unmoved.{IsUnmoved}
 
 pub record WorldState : Type 0 where
   -- the two stores
@@ -129,8 +128,6 @@ pub record IsReplayed (w : WorldState) (p : Pair) : Type 0 where
   pub given_since : All (IsGiven p) (all_tags w.history.entries)
   -- a world is retired only where old is sealed and empty
   pub retired : w.retired ≡ true → IsEmptied p
-  -- nothing moves yet: this is for the bound of `World::finish`, and nothing else rests on it
-  pub unmoved : IsUnmoved p
 
 -- the entries of faults are no more than the rise of the stores' counts since opening; a count at its end says nothing more
 abbrev pub AreCounted : WorldState → Type 0

@@ -11,5 +11,5 @@ mod tests;
 mod world;
 
 pub use actor::{Actor, Answer, ClientCall, Progress, Request, TurnFault};
-pub use opening::{NotOpened, OpenFault};
+pub use opening::NotOpened;
 pub use world::{Stores, World};

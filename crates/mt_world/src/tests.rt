@@ -9,7 +9,9 @@ use crate::{Answer, Request, TurnFault, World};
 use mt_chain::{Cond, Keeper, Op, Put, Puts, Tags};
 use mt_history::{History, What};
 use mt_mem::MemKeeper;
-use mt_model::{Key, Name, Prop, Props, Text, Value};
+use mt_meta::{MARKER_KEY, Mark, NewPhase, Phase, new_marker, old_marker, stored};
+use mt_model::{Key, Name, Prop, Props, Tag, Text, Value};
+use mt_open::OpenFault;
 use mt_rules::{Batch, check_batch};
 use std::alloc::Global;
 use std::test::Fail;
@@ -18,6 +20,7 @@ use std::test::Fail;
 #[derive(Clone, Copy)]
 enum Ask {
     Insert(&'static str),
+    Delete(&'static str),
     InsertAndDelete(&'static str, &'static str),
 
     /// The inserts of `a000`, `a001` and so on, at most 100.
@@ -83,6 +86,7 @@ fn ops_of(alloc: Global, ask: Ask) -> Result<Vec<Op>, Fail>
     let mut ops = Vec::new(alloc);
     match ask {
         Ask::Insert(rk) => ops.push(insert(alloc, rk)?)?,
+        Ask::Delete(rk) => ops.push(delete(alloc, rk)?)?,
         Ask::InsertAndDelete(there, gone) => {
             ops.push(insert(alloc, there)?)?;
             ops.push(delete(alloc, gone)?)?;
@@ -258,15 +262,46 @@ fn writes_many_rows_in_two_store_calls(rt: HostRuntime) -> Result<(), Fail> {
     Ok(())
 }
 
-/// What a store has before it is opened.
+/// A row of the partition `p` that a store has before it is opened.
+#[derive(Clone, Copy)]
+enum Given {
+    /// The marker, in old and in new.
+    Old(Phase),
+    New(NewPhase),
+
+    /// The row `r`: a client's, and in new a copy of it, which keeps the tag 0.2.
+    Row,
+    Copy,
+}
+
+/// What was done to a store before it is opened.
 #[derive(Clone, Copy)]
 enum Before {
     Nothing,
-    Row,
-    Seal,
+    Insert(Given),
 
-    /// The call that opens it fails.
-    Failing,
+    /// The row takes the place of the one of that tag.
+    Replace(Given, u64),
+    Seal,
+}
+
+fn props_of(alloc: Global, given: Given) -> Result<Props, Fail> {
+    match given {
+        Given::Old(phase) => Ok(old_marker(alloc, phase)?),
+        Given::New(phase) => Ok(new_marker(alloc, phase)?),
+        Given::Row => one(alloc),
+        Given::Copy => {
+            let props = one(alloc)?;
+            Ok(stored(alloc, Mark::Copy(Tag { store: 0, n: 2 }), &props)?)
+        }
+    }
+}
+
+fn row_key_of(alloc: Global, given: Given) -> Result<Text, Fail> {
+    match given {
+        Given::Old(_) | Given::New(_) => Ok(Text::of(alloc, MARKER_KEY)?),
+        Given::Row | Given::Copy => Ok(Text::of(alloc, "r")?),
+    }
 }
 
 fn single(alloc: Global, put: Put) -> Result<Puts, Fail>
@@ -277,17 +312,15 @@ fn single(alloc: Global, put: Put) -> Result<Puts, Fail>
     Ok(Puts::of(list))
 }
 
-/// Gives the store a row.
-fn put_row(alloc: Global, keeper: &mut MemKeeper) -> Result<(), Fail>
+/// Makes one put in the partition `p`.
+fn put(alloc: Global, keeper: &mut MemKeeper, put: Put) -> Result<(), Fail>
     ensures { keeper.new.store ≡ keeper.old.store }
 {
     let pk = Text::of(alloc, "p")?;
-    let rk = Text::of(alloc, "r")?;
-    let props = one(alloc)?;
-    let puts = single(alloc, Put::Insert { rk, props })?;
+    let puts = single(alloc, put)?;
     match keeper.apply(alloc, &pk, &puts) {
         Ok(_) => Ok(()),
-        Err(_) => Err(Fail::new("a store takes no row")),
+        Err(_) => Err(Fail::new("a store does not take a put")),
     }
 }
 
@@ -300,52 +333,179 @@ fn seal(alloc: Global, keeper: &mut MemKeeper) -> Result<(), Fail>
     }
 }
 
-fn prepared(alloc: Global, number: u32, before: Before) -> Result<MemKeeper, Fail>
-    ensures { IfOk result (λ k. k.store ≡ number) }
+fn prepare(alloc: Global, keeper: &mut MemKeeper, before: Before) -> Result<(), Fail>
+    ensures { keeper.new.store ≡ keeper.old.store }
 {
+    let store = keeper.number();
     match before {
-        Before::Nothing => store(alloc, number, 0),
-        Before::Failing => store(alloc, number, 1),
-        Before::Row => {
-            let mut keeper = store(alloc, number, 0)?;
-            put_row(alloc, &mut keeper)?;
-            Ok(keeper)
+        Before::Nothing => Ok(()),
+        Before::Seal => seal(alloc, keeper),
+        Before::Insert(given) => {
+            let rk = row_key_of(alloc, given)?;
+            let props = props_of(alloc, given)?;
+            put(alloc, keeper, Put::Insert { rk, props })
         }
-        Before::Seal => {
-            let mut keeper = store(alloc, number, 0)?;
-            seal(alloc, &mut keeper)?;
-            Ok(keeper)
+        Before::Replace(given, n) => {
+            let rk = row_key_of(alloc, given)?;
+            let props = props_of(alloc, given)?;
+            let tag = Tag { store, n };
+            put(alloc, keeper, Put::Replace { rk, props, tag })
         }
     }
 }
 
-/// How the opening of two stores ends.
-fn opened(alloc: Global, old: Before, new: Before) -> Result<String, Fail> {
-    let old = prepared(alloc, 0, old)?;
-    let new = prepared(alloc, 1, new)?;
+/// A store to which this was done, and which fails at this call, or at none where it is 0.
+fn prepared(
+    alloc: Global,
+    number: u32,
+    befores: [Before; 3],
+    failing: u64,
+) -> Result<MemKeeper, Fail>
+    ensures { IfOk result (λ k. k.store ≡ number) }
+{
+    let [first, second, third] = befores;
+    let mut keeper = store(alloc, number, failing)?;
+    prepare(alloc, &mut keeper, first)?;
+    prepare(alloc, &mut keeper, second)?;
+    prepare(alloc, &mut keeper, third)?;
+    Ok(keeper)
+}
+
+const NOTHING: [Before; 3] = [Before::Nothing, Before::Nothing, Before::Nothing];
+
+/// A client's row, under a marker that lets clients write it.
+const WRITTEN: [Before; 3] = [
+    Before::Insert(Given::Old(Phase::UseOld)),
+    Before::Insert(Given::Row),
+    Before::Nothing,
+];
+
+/// The same once clients are sent to new.
+const TURNED: [Before; 3] = [
+    Before::Insert(Given::Old(Phase::UseOld)),
+    Before::Insert(Given::Row),
+    Before::Replace(Given::Old(Phase::PreferNew), 1),
+];
+
+/// New fills.
+const FILLING: [Before; 3] = [
+    Before::Insert(Given::New(NewPhase::Filling)),
+    Before::Nothing,
+    Before::Nothing,
+];
+
+/// New fills, and has a copy of the row.
+const COPIED: [Before; 3] = [
+    Before::Insert(Given::New(NewPhase::Filling)),
+    Before::Insert(Given::Copy),
+    Before::Nothing,
+];
+
+const SEALED: [Before; 3] = [Before::Seal, Before::Nothing, Before::Nothing];
+
+const UNMARKED: [Before; 3] = [Before::Insert(Given::Row), Before::Nothing, Before::Nothing];
+
+/// The world of two stores to which this was done, or why there is none.
+fn opened(
+    alloc: Global,
+    old: [Before; 3],
+    new: [Before; 3],
+) -> Result<Result<World<MemKeeper>, OpenFault>, Fail> {
+    let old = prepared(alloc, 0, old, 0)?;
+    let new = prepared(alloc, 1, new, 0)?;
     match World::open_world(alloc, old, new, 10) {
-        Ok(_) => Ok(String::from_str(alloc, "opened")?),
-        Err(refused) => {
-            let fault = refused.fault;
-            Ok(format!(in alloc; "{fault:?}")?)
+        Ok(world) => Ok(Ok(world)),
+        Err(refused) => Ok(Err(refused.fault)),
+    }
+}
+
+fn fault_text(alloc: Global, fault: &OpenFault) -> Result<String, Fail> {
+    match fault {
+        OpenFault::Damaged { store, key, rule } => {
+            let (store, rule) = (*store, *rule);
+            let (pk, rk) = (key.pk.as_str(), key.rk.as_str());
+            Ok(format!(in alloc; "store {store} rule {rule} at {pk}/{rk}")?)
         }
+        OpenFault::StoreFault => Ok(String::from_str(alloc, "StoreFault")?),
+        OpenFault::NoMemory => Ok(String::from_str(alloc, "NoMemory")?),
+    }
+}
+
+fn opening_text(
+    alloc: Global,
+    opened: &Result<World<MemKeeper>, OpenFault>,
+) -> Result<String, Fail> {
+    match opened {
+        Ok(world) => {
+            let (retired, rows) = (world.retired(), world.rows(alloc)?);
+            Ok(format!(in alloc; "retired {retired} rows {rows}")?)
+        }
+        Err(fault) => fault_text(alloc, fault),
     }
 }
 
 #[test]
-fn opens_fresh_stores(rt: HostRuntime) -> Result<(), Fail> {
+fn opens_sound_pairs(rt: HostRuntime) -> Result<(), Fail> {
     let alloc = rt.alloc();
     for (old, new, want) in [
-        (Before::Nothing, Before::Nothing, "opened"),
-        (Before::Row, Before::Nothing, "NotEmpty { store: 0 }"),
-        (Before::Nothing, Before::Row, "NotEmpty { store: 1 }"),
-        (Before::Seal, Before::Row, "NotEmpty { store: 0 }"),
-        (Before::Nothing, Before::Seal, "NotEmpty { store: 1 }"),
-        (Before::Row, Before::Failing, "StoreFault"),
-        (Before::Failing, Before::Row, "StoreFault"),
+        (NOTHING, NOTHING, "retired false rows 0"),
+        (WRITTEN, NOTHING, "retired false rows 1"),
+        (TURNED, FILLING, "retired false rows 1"),
+        (SEALED, NOTHING, "retired true rows 0"),
+        (UNMARKED, NOTHING, "store 0 rule 2 at p/r"),
+        (WRITTEN, COPIED, "store 1 rule 3 at p/\u{1}"),
+        (NOTHING, SEALED, "store 1 rule 8 at /"),
     ] {
-        let got = opened(alloc, old, new)?;
+        let opened = opened(alloc, old, new)?;
+        let got = opening_text(alloc, &opened)?;
         assert!(rt; got.as_str() == want, "{got}");
+    }
+    Ok(())
+}
+
+/// What a delete or an insert of the row `r`, and then an insert of `r`, come to in such a world.
+fn answered(alloc: Global, old: [Before; 3], new: [Before; 3], ask: Ask) -> Result<String, Fail> {
+    let Ok(mut world) = opened(alloc, old, new)? else {
+        return Err(Fail::new("a sound pair was not opened"));
+    };
+    let mut text = asked(alloc, &mut world, 0, ask)?;
+    text.push_str(asked(alloc, &mut world, 0, Ask::Insert("r"))?.as_str())?;
+    Ok(text)
+}
+
+#[test]
+fn goes_on_in_new_in_three_turns(rt: HostRuntime) -> Result<(), Fail> {
+    let alloc = rt.alloc();
+    for (old, new, ask, want) in [
+        (
+            TURNED,
+            FILLING,
+            Ask::Delete("r"),
+            "0.2 calls 3 rows 0; 1.3 calls 6 rows 1; ",
+        ),
+        (
+            SEALED,
+            NOTHING,
+            Ask::Insert("r"),
+            "1.2 calls 3 rows 1; Exists at 0 calls 5 rows 1; ",
+        ),
+    ] {
+        let got = answered(alloc, old, new, ask)?;
+        assert!(rt; got.as_str() == want, "{got}");
+    }
+    Ok(())
+}
+
+#[test]
+fn a_store_that_fails_is_not_opened(rt: HostRuntime) -> Result<(), Fail> {
+    let alloc = rt.alloc();
+    for (old_failing, new_failing) in [(1, 0), (0, 1)] {
+        let old = store(alloc, 0, old_failing)?;
+        let new = store(alloc, 1, new_failing)?;
+        let Err(refused) = World::open_world(alloc, old, new, 10) else {
+            return Err(Fail::new("a store that fails was opened"));
+        };
+        assert!(rt; refused.fault == OpenFault::StoreFault);
     }
     Ok(())
 }

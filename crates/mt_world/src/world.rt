@@ -1,21 +1,23 @@
 //! The world: two stores, and the history of what happened to their table.
-ghost use Rattle.std.specs.Prelude.{◌≡◌, ◌≤◌, IfOk, IfErr};
+ghost use Rattle.std.specs.Prelude.{◌≡◌, ◌≤◌, IfOk, IfErr, Err};
+ghost use Rattle.mt_open.specs.Opening.{OpensPair};
 ghost use Rattle.mt_world.specs.Worlds.{IsWorld};
 ghost use Rattle.mt_world.specs.Replays.{CountsRows};
-ghost use Rattle.mt_world.specs.Opening.{Opened, ComesBack};
+ghost use Rattle.mt_world.specs.Opening.{Opened};
 ghost use Rattle.mt_world.specs.Moves.{CanStep, IsCallOf};
 ghost use Rattle.mt_world.specs.Turns.{Knows, Turned};
 ghost use Rattle.mt_world.specs.WholeCalls.{EndsCall};
 
 use crate::actor::{Actor, Answer, ClientCall, Progress, Request, TurnFault};
 use crate::log::Log;
-use crate::opening::{NotOpened, check_stores};
+use crate::opening::NotOpened;
 use crate::replay::count_rows;
 use crate::stage::Stage;
 use mt_batch_plan::BatchCall;
 use mt_chain::Keeper;
 use mt_history::History;
 use mt_model::{Entities, NoMemory};
+use mt_open::{OpenedPair, open_stores};
 use std::alloc::Global;
 use std::marker::Model;
 use std::snapshot::Snapshot;
@@ -83,9 +85,10 @@ impl<K: Keeper> World<K> {
     /// Opens two stores, the one of number 0 as the old one and that of number 1 as the new one, with a
     /// history that may have so many entries, 1 to 1,048,576.
     ///
-    /// Each store is asked once for its first partition, store 0 first. A fault of either comes before
-    /// `NotEmpty`, which names the first store that has a row or is sealed. Stores that are not opened
-    /// come back as they are.
+    /// Both are read whole, the old one first. The rows of the table at opening are those that clients
+    /// see of a sound pair, and the world is retired where the old store is sealed and has no row.
+    /// Refused with `Damaged` exactly where the stores are no sound pair, after both were read; with
+    /// `StoreFault` only where one of them failed. Stores that are not opened come back as they are.
     pub fn open_world(
         alloc: Global,
         mut old_store: K,
@@ -97,30 +100,37 @@ impl<K: Keeper> World<K> {
         requires some { 1 ≤ entries }
         requires bounded { entries ≤ 1048576 }
         ensures opened { IfOk result (Opened (K.state old_store) (K.state new_store) entries) }
-        ensures refused { IfErr result (λ e. ComesBack (K.state old_store) (K.state new_store) e.fault (K.state e.old) (K.state e.new)) }
+        ensures refused { IfErr result (λ e. OpensPair (K.state old_store) (K.state new_store) (Err e.fault) (K.state e.old) (K.state e.new)) }
     {
-        if let Err(fault) = check_stores(alloc, &mut old_store, &mut new_store) {
-            return Err(NotOpened {
+        match open_stores(alloc, &mut old_store, &mut new_store) {
+            Ok(
+                OpenedPair {
+                    table,
+                    is_old_emptied,
+                },
+            ) => {
+                let old_opened = Snapshot::of(&old_store);
+                let new_opened = Snapshot::of(&new_store);
+                Ok(World {
+                    stage: Stage {
+                        old_store,
+                        new_store,
+                        log: Log::new(alloc, entries),
+                        calls: 0,
+                    },
+                    base: table,
+                    generation: 1,
+                    retired: is_old_emptied,
+                    old_opened,
+                    new_opened,
+                })
+            }
+            Err(fault) => Err(NotOpened {
                 fault,
                 old: old_store,
                 new: new_store,
-            });
+            }),
         }
-        let old_opened = Snapshot::of(&old_store);
-        let new_opened = Snapshot::of(&new_store);
-        Ok(World {
-            stage: Stage {
-                old_store,
-                new_store,
-                log: Log::new(alloc, entries),
-                calls: 0,
-            },
-            base: Entities::of(Vec::new(alloc)),
-            generation: 1,
-            retired: false,
-            old_opened,
-            new_opened,
-        })
     }
 
     /// The call of a request, at its beginning, which knows nothing yet. The world stays as it is.
@@ -155,7 +165,8 @@ impl<K: Keeper> World<K> {
     }
 
     /// Takes turns until the call ends, with no other caller between them. A call at its beginning
-    /// takes two at most while both stores tell what they hold: one that reads, and one that writes.
+    /// takes three at most while both stores tell what they hold: one that reads the old store, one that
+    /// reads the new one, where the old one says so, and one that writes.
     pub fn finish(
         &mut self,
         alloc: Global,

@@ -3,5 +3,6 @@ mod answers;
 mod endings;
 mod heads;
 mod http;
+mod pairs;
 mod refusals;
 mod runs;

@@ -10,4 +10,4 @@ returns-in-Ok g c =
 pub returns-in-Err : goal.returns-in-Err
 returns-in-Err g c =
     over_refused (g.S.Source.input c.args.source.now) (g.T.Sink.output c.args.sink.now) (g.K.Keeper.state c.args.old) (g.K.Keeper.state c.args.new) (g.K.Keeper.state c.in-Err.field-0.old) (g.K.Keeper.state c.in-Err.field-0.new)
-    c.in-Err.field-0.fault c.ending_of_opening.result c.ending_of_opening.ensures c.in-Err.ensures.refused
+    c.requires.old c.requires.new c.in-Err.field-0.fault c.refuse.result (g.T.Sink.output c.refuse.new.sink) c.refuse.ensures c.in-Err.ensures.refused

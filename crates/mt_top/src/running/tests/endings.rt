@@ -113,13 +113,13 @@ fn statuses(rt: HostRuntime) -> Result<(), Fail> {
 }
 
 #[test]
-fn a_second_run_finds_the_stores_occupied(rt: HostRuntime) -> Result<(), Fail> {
+fn a_second_run_serves_the_rows_of_the_first(rt: HostRuntime) -> Result<(), Fail> {
     let alloc = rt.alloc();
     let mut depot = depot_of(alloc, PLAIN)?;
-    for (status, want) in [(0, Output::Created), (6, Output::Nothing)] {
-        let want = text_of(alloc, want)?;
-        let (found, got) = ran_over(alloc, PLAIN, &mut depot, INSERT)?;
-        assert!(rt; found == status);
+    for want in [Reply::Created("r", 2), Reply::Exists] {
+        let want = reply_of(alloc, want)?;
+        let (status, got) = ran_over(alloc, PLAIN, &mut depot, INSERT)?;
+        assert!(rt; status == 0);
         assert!(rt; got.as_str() == want.as_str(), "{got}");
     }
     Ok(())
