@@ -33,7 +33,8 @@ fn single(alloc: Global, put: Put) -> Result<Puts, Fail>
 
 /// Makes one put in the partition `p`.
 fn apply(alloc: Global, keeper: &mut MemKeeper, put: Put) -> Result<(), Fail>
-    ensures { keeper.new.store ≡ keeper.old.store }
+    ensures store { keeper.new.store ≡ keeper.old.store }
+    ensures clean { IfOk result (λ _. keeper.new.faults ≡ keeper.old.faults) }
 {
     let pk = Text::of(alloc, "p")?;
     let puts = single(alloc, put)?;
@@ -44,7 +45,8 @@ fn apply(alloc: Global, keeper: &mut MemKeeper, put: Put) -> Result<(), Fail>
 }
 
 fn insert(alloc: Global, keeper: &mut MemKeeper, row_key: &str, props: Props) -> Result<(), Fail>
-    ensures { keeper.new.store ≡ keeper.old.store }
+    ensures store { keeper.new.store ≡ keeper.old.store }
+    ensures clean { IfOk result (λ _. keeper.new.faults ≡ keeper.old.faults) }
 {
     let rk = Text::of(alloc, row_key)?;
     apply(alloc, keeper, Put::Insert { rk, props })
@@ -56,7 +58,8 @@ fn no_props(alloc: Global) -> Result<Props, Fail> {
 
 /// Old has the row `r` under a marker that lets clients write it.
 fn write_old(alloc: Global, old: &mut MemKeeper) -> Result<(), Fail>
-    ensures { old.new.store ≡ old.old.store }
+    ensures store { old.new.store ≡ old.old.store }
+    ensures clean { IfOk result (λ _. old.new.faults ≡ old.old.faults) }
 {
     let marker = old_marker(alloc, Phase::UseOld)?;
     let props = no_props(alloc)?;
@@ -66,7 +69,8 @@ fn write_old(alloc: Global, old: &mut MemKeeper) -> Result<(), Fail>
 
 /// Sends clients to new.
 fn turn_old(alloc: Global, old: &mut MemKeeper) -> Result<(), Fail>
-    ensures { old.new.store ≡ old.old.store }
+    ensures store { old.new.store ≡ old.old.store }
+    ensures clean { IfOk result (λ _. old.new.faults ≡ old.old.faults) }
 {
     let rk = Text::of(alloc, MARKER_KEY)?;
     let props = old_marker(alloc, Phase::PreferNew)?;
@@ -75,14 +79,16 @@ fn turn_old(alloc: Global, old: &mut MemKeeper) -> Result<(), Fail>
 }
 
 fn fill_new(alloc: Global, new: &mut MemKeeper) -> Result<(), Fail>
-    ensures { new.new.store ≡ new.old.store }
+    ensures store { new.new.store ≡ new.old.store }
+    ensures clean { IfOk result (λ _. new.new.faults ≡ new.old.faults) }
 {
     let marker = new_marker(alloc, NewPhase::Filling)?;
     insert(alloc, new, MARKER_KEY, marker)
 }
 
 fn copy_row(alloc: Global, new: &mut MemKeeper) -> Result<(), Fail>
-    ensures { new.new.store ≡ new.old.store }
+    ensures store { new.new.store ≡ new.old.store }
+    ensures clean { IfOk result (λ _. new.new.faults ≡ new.old.faults) }
 {
     let props = no_props(alloc)?;
     let copy = stored(alloc, Mark::Copy(Tag { store: 0, n: 2 }), &props)?;
@@ -90,7 +96,8 @@ fn copy_row(alloc: Global, new: &mut MemKeeper) -> Result<(), Fail>
 }
 
 fn seal(alloc: Global, new: &mut MemKeeper) -> Result<(), Fail>
-    ensures { new.new.store ≡ new.old.store }
+    ensures store { new.new.store ≡ new.old.store }
+    ensures clean { IfOk result (λ _. new.new.faults ≡ new.old.faults) }
 {
     match new.seal(alloc) {
         Ok(()) => Ok(()),
