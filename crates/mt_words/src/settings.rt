@@ -3,8 +3,7 @@ ghost use Rattle.std.specs.Prelude.{◌≡◌, ◌≢◌, ◌<◌, ◌≤◌, �
 ghost use Rattle.mt_words.specs.Readings.{texts_of, setting_of, given_of, nothing, IsNamed, IsNotNamed, IsPair, IsNoPair, IsFront, HasNoFront, Joins, HasNoSettings, HasSettings};
 
 use crate::command::StoreChoice;
-use itoa::Buffer;
-use mt_model::is_table_name;
+use mt_model::{is_table_name, read_decimal};
 
 /// The greatest number of entries of a history.
 pub const MAX_HISTORY: u64 = 1_048_576;
@@ -37,21 +36,6 @@ pub struct Settings<'a> {
 struct Peeled<'a> {
     setting: Setting<'a>,
     rest: &'a [String],
-}
-
-/// The number that the text spells in decimal digits, without sign or leading zeros.
-fn read_decimal(text: &str) -> Option<u64>
-    ensures { MatchOption result ((n : ℕ) → n < 2 ^ 64 → text.now ≢ decimal n) (λ n. text.now ≡ decimal n) }
-{
-    let Ok(n) = text.parse::<u64>() else {
-        return None;
-    };
-    let mut buffer = Buffer::new();
-    if buffer.format(n) == text {
-        Some(n)
-    } else {
-        None
-    }
 }
 
 /// A number from 1 to the greatest.
