@@ -193,7 +193,7 @@ basis_plain ops (Overlay rows entries) = (tt, plain_rows New (partition_of ops) 
 basis_plain ops (NewRows entries) = plain_rows New (partition_of ops) entries
 basis_plain ops NewBirth = (tt, tt)
 
-place_plain : (ops : List Op) (place : Place) → AllPlain (place_facts ops place)
+pub place_plain : (ops : List Op) (place : Place) → AllPlain (place_facts ops place)
 place_plain ops ReadOld = tt
 place_plain ops (ReadNew (Turned rows)) = (tt, tt)
 place_plain ops (ReadNew Closed) = (tt, tt)

@@ -9,8 +9,6 @@ mod place;
 mod plan;
 mod puts;
 mod saw;
-#[cfg(test)]
-mod tests;
 
 pub use basis::Basis;
 pub use call::{BatchCall, BatchProgress};

@@ -8,8 +8,6 @@ mod migrator;
 mod moves;
 mod puts;
 mod state;
-#[cfg(test)]
-mod tests;
 
 pub use migrator::{Migrator, MoveProgress};
 pub use state::{Copying, Part, Pass, Reading, State, Walk};

@@ -6,8 +6,6 @@ mod call;
 mod place;
 mod range;
 mod saw;
-#[cfg(test)]
-mod tests;
 
 pub use call::{QueryCall, QueryProgress};
 pub use place::{AfterOld, Place};

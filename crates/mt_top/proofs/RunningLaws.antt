@@ -31,8 +31,11 @@ use Rattle.mt_front.proofs.FitLaws.{fits_sooner}
 use Rattle.mt_top.specs.declared.running.Ending.{Ending}
 use Rattle.mt_top.specs.declared.running.Ending.TheVariants.{Served, BadWords, ReadFault, WriteFault, StoreFault, Damaged, BadInput, NoMemory}
 use Rattle.mt_top.specs.Lines.{damage_line}
-use Rattle.mt_top.specs.Run.{Service, orders, is_bad_words, Along, Tellings, Idle, WhereTold, AllTell, IsOpened, IsReplay, AtDamage, Wrote, FaultsRose, During, RunEnds, depot_tellings}
-use Rattle.mt_top.specs.Endings.{ending_at, ending_of, Refuses, tellings_of, Over, OverDepot}
+use Rattle.mt_words.specs.declared.command.Common.{Common}
+use Rattle.mt_words.specs.declared.command.Command.{Command}
+use Rattle.mt_words.specs.declared.command.Command.TheVariants as command
+use Rattle.mt_top.specs.Run.{Service, service_of, Along, Tellings, Idle, WhereTold, AllTell, IsOpened, IsReplay, AtDamage, Wrote, FaultsRose, During, RunEnds, EndsSession, AskedEnds, depot_tellings}
+use Rattle.mt_top.specs.Endings.{ending_at, ending_of, Refuses, tellings_of, Over}
 
 -- ---- one store before and after
 
@@ -95,17 +98,6 @@ by_during v s o c before now (Err conn.ReadFault) t x d = d
 by_during v s o c before now (Err conn.WriteFault) t x d = d
 by_during v s o c before now (Err conn.NoMemory) t x d = inr d
 
-spoken_at : (e : End) → is_bad_words (ending_at e) ≡ false
-spoken_at end.Input = refl
-spoken_at end.Closed = refl
-spoken_at end.BadInput = refl
-
-spoken : (r : Result ServedTo ConnFault) → is_bad_words (ending_of r) ≡ false
-spoken (Ok served) = spoken_at served.«end»
-spoken (Err conn.ReadFault) = refl
-spoken (Err conn.WriteFault) = refl
-spoken (Err conn.NoMemory) = refl
-
 -- the counts of both stores together
 caused_both : (k l : Store) (w w' : WorldState) (items : List Item) → k.faults ≤ w.old_store.faults → l.faults ≤ w.new_store.faults → AreCaused (counts_of w) items (counts_of w') → FaultsRose (k.faults + l.faults) items (w'.old_store.faults + w'.new_store.faults)
 caused_both k l w w' items p q h = elim (caused_sum (counts_of w) (counts_of w') items h) as (λ _. FaultsRose (k.faults + l.faults) items (w'.old_store.faults + w'.new_store.faults)) [
@@ -114,7 +106,7 @@ caused_both k l w w' items p q h = elim (caused_sum (counts_of w) (counts_of w')
   | inr (inr at) ↦ inr (omega (arith, at))
 ]
 
-module _ (s : Input) (o : Output) (k l : Store) (w : WorldState) (r : Result ServedTo ConnFault) (w' : WorldState) (t : Input) (x : Output) (zero : k.number ≡ 0) (one : l.number ≡ 1) (world : IsWorld w') where
+module _ (common : Common) (s : Input) (o : Output) (k l : Store) (w : WorldState) (r : Result ServedTo ConnFault) (w' : WorldState) (t : Input) (x : Output) (zero : k.number ≡ 0) (one : l.number ≡ 1) (world : IsWorld w') where
   found : (base : List Entity) → base ≡ w.base → w.old_store.number ≡ 0 → w.new_store.number ≡ 1
       → ForPair w.old_store.number w.new_store.number w.old_store.told w.new_store.told (λ p. IsSound p × IsListing w.base (logical_table p))
       → ForPair 0 1 w.old_store.told w.new_store.told (λ p. IsSound p × IsListing base (logical_table p))
@@ -123,7 +115,7 @@ module _ (s : Input) (o : Output) (k l : Store) (w : WorldState) (r : Result Ser
       (subst (λ n. ForPair 0 n w.old_store.told w.new_store.told (λ p. IsSound p × IsListing w.base (logical_table p))) high
       (subst (λ n. ForPair n w.new_store.number w.old_store.told w.new_store.told (λ p. IsSound p × IsListing w.base (logical_table p))) low h))
 
-  during : Opened k l orders.limit w → Serves 0 orders.table w s o r w' t x → During orders s o (ending_of r) (tellings_of k w'.old_store l w'.new_store) (k.faults + l.faults) (w'.old_store.faults + w'.new_store.faults) t x
+  during : Opened k l common.history w → Serves 0 common.table w s o r w' t x → During (service_of common) s o (ending_of r) (tellings_of k w'.old_store l w'.new_store) (k.faults + l.faults) (w'.old_store.faults + w'.new_store.faults) t x
   during opened served =
       let same = served.talk.same in
       let first : w'.history.first ≡ 0 = same.first ∙ opened.first in
@@ -139,30 +131,29 @@ module _ (s : Input) (o : Output) (k l : Store) (w : WorldState) (r : Result Ser
               (subst (λ n. FitsFrom 0 (Tells w') (past_of w') n served.course.items []) started served.talk.answered.fits);
         };
         own = subst (λ (es : List Entry). All (λ (e : Entry). e.caller ≡ 0) es) (sym (served.talk.added.grew ∙ ap (λ (es : List Entry). es ++ served.talk.added.more) opened.nothing)) served.talk.added.own;
-        opened = opened_along (IsOpened orders w') k.told l.told w.old_store.told w.new_store.told w'.old_store.told w'.new_store.told opened.opens.old_stays.contents opened.opens.new_stays.contents served.talk.told.old_told served.talk.told.new_told
+        opened = opened_along (IsOpened (service_of common) w') k.told l.told w.old_store.told w.new_store.told w'.old_store.told w'.new_store.told opened.opens.old_stays.contents opened.opens.new_stays.contents served.talk.told.old_told served.talk.told.new_told
             (found w'.base same.base (opened.opens.old_stays.number ∙ zero) (opened.opens.new_stays.number ∙ one) opened.opens.shows);
-        replayed = replayed_at orders w' (same.old_number ∙ opened.opens.old_stays.number ∙ zero) (same.new_number ∙ opened.opens.new_stays.number ∙ one) k.told l.told w'.old_store.told w'.new_store.told world.replayed;
+        replayed = replayed_at (service_of common) w' (same.old_number ∙ opened.opens.old_stays.number ∙ zero) (same.new_number ∙ opened.opens.new_stays.number ∙ one) k.told l.told w'.old_store.told w'.new_store.told world.replayed;
         caused = caused_both k l w w' served.course.items opened.opens.old_stays.faults opened.opens.new_stays.faults served.talk.caused;
         wrote = wrote s o served.course r t x served.ends;
       }
 
-  over_session : Opened k l orders.limit w → Serves 0 orders.table w s o r w' t x → Over s o k l (ending_of r) t x w'.old_store w'.new_store
+  over_session : Opened k l common.history w → Serves 0 common.table w s o r w' t x → Over (service_of common) s o k l (ending_of r) t x w'.old_store w'.new_store
   over_session opened served = record {
     number = served.talk.same.old_number ∙ opened.opens.old_stays.number;
     number_new = served.talk.same.new_number ∙ opened.opens.new_stays.number;
-    spoken = spoken r;
-    ends = by_during orders s o (tellings_of k w'.old_store l w'.new_store) (k.faults + l.faults) (w'.old_store.faults + w'.new_store.faults) r t x (during opened served);
+    ends = by_during (service_of common) s o (tellings_of k w'.old_store l w'.new_store) (k.faults + l.faults) (w'.old_store.faults + w'.new_store.faults) r t x (during opened served);
   }
 
-  pub over_served : (table : List ℕ) (ending : Ending) (k' l' : Store) → table ≡ orders.table → ending ≡ ending_of r → k' ≡ w'.old_store → l' ≡ w'.new_store → Opened k l orders.limit w → Serves 0 table w s o r w' t x → Over s o k l ending t x k' l'
+  pub over_served : (table : List ℕ) (ending : Ending) (k' l' : Store) → table ≡ common.table → ending ≡ ending_of r → k' ≡ w'.old_store → l' ≡ w'.new_store → Opened k l common.history w → Serves 0 table w s o r w' t x → Over (service_of common) s o k l ending t x k' l'
   over_served table ending k' l' table_is ending_is old_is new_is opened served =
-      subst (λ n. Over s o k l n t x k' l') (sym ending_is)
-      (subst (λ m. Over s o k l (ending_of r) t x m l') (sym old_is)
-      (subst (λ m. Over s o k l (ending_of r) t x w'.old_store m) (sym new_is) (over_session opened (subst (λ n. Serves 0 n w s o r w' t x) table_is served))))
+      subst (λ n. Over (service_of common) s o k l n t x k' l') (sym ending_is)
+      (subst (λ m. Over (service_of common) s o k l (ending_of r) t x m l') (sym old_is)
+      (subst (λ m. Over (service_of common) s o k l (ending_of r) t x w'.old_store m) (sym new_is) (over_session opened (subst (λ n. Serves 0 n w s o r w' t x) table_is served))))
 
 -- ---- stores that were not opened
 
-module _ (s : Input) (o : Output) (k l k' l' : Store) (zero : k.number ≡ 0) (one : l.number ≡ 1) where
+module _ (common : Common) (s : Input) (o : Output) (k l k' l' : Store) (zero : k.number ≡ 0) (one : l.number ≡ 1) where
   idle_over : (x : Output) (f : OpenFault) → x ≡ o → OpensPair k l (Err f) k' l' → Idle s o (tellings_of k k' l l') s x
   idle_over x f same c = record {
     source = refl;
@@ -179,7 +170,7 @@ module _ (s : Input) (o : Output) (k l k' l' : Store) (zero : k.number ≡ 0) (o
   damaged_at n key rule low high h =
       subst (λ m. ForPair 0 m k'.told l'.told (λ p. IsDamagedAt p n key rule)) high (subst (λ m. ForPair m l'.number k'.told l'.told (λ p. IsDamagedAt p n key rule)) low h)
 
-  at_damage : (x : Output) (n : ℕ) (key : Key) (rule : ℕ) → Sent o (damage_line n key rule) x ⊎ Cut o (damage_line n key rule) x → OpensPair k l (Err (opening.Damaged n key rule)) k' l' → AtDamage orders s o (tellings_of k k' l l') s x
+  at_damage : (x : Output) (n : ℕ) (key : Key) (rule : ℕ) → Sent o (damage_line n key rule) x ⊎ Cut o (damage_line n key rule) x → OpensPair k l (Err (opening.Damaged n key rule)) k' l' → AtDamage (service_of common) s o (tellings_of k k' l l') s x
   at_damage x n key rule said c = record {
     store = n;
     key = key;
@@ -192,20 +183,14 @@ module _ (s : Input) (o : Output) (k l k' l' : Store) (zero : k.number ≡ 0) (o
         (damaged_at n key rule (c.old_stays.number ∙ zero) (c.new_stays.number ∙ one) c.shows);
   }
 
-  refused_ends : (f : OpenFault) (ending : Ending) (x : Output) → Refuses o f ending x → OpensPair k l (Err f) k' l' → RunEnds orders s o ending (tellings_of k k' l l') (k.faults + l.faults) (k'.faults + l'.faults) s x
-  refused_ends (opening.Damaged n key rule) ending x (inl h) c = subst (λ e. RunEnds orders s o e (tellings_of k k' l l') (k.faults + l.faults) (k'.faults + l'.faults) s x) (sym h.0) (at_damage x n key rule h.1 c)
-  refused_ends (opening.Damaged n key rule) ending x (inr h) c = subst (λ e. RunEnds orders s o e (tellings_of k k' l l') (k.faults + l.faults) (k'.faults + l'.faults) s x) (sym h.0) (inl (idle_over x (opening.Damaged n key rule) h.1 c))
-  refused_ends opening.StoreFault ending x h c = subst (λ e. RunEnds orders s o e (tellings_of k k' l l') (k.faults + l.faults) (k'.faults + l'.faults) s x) (sym h.0) (idle_over x opening.StoreFault h.1 c, rose_both c.faults c.old_stays.faults c.new_stays.faults)
-  refused_ends opening.NoMemory ending x h c = subst (λ e. RunEnds orders s o e (tellings_of k k' l l') (k.faults + l.faults) (k'.faults + l'.faults) s x) (sym h.0) (inl (idle_over x opening.NoMemory h.1 c))
+  refused_ends : (f : OpenFault) (ending : Ending) (x : Output) → Refuses o f ending x → OpensPair k l (Err f) k' l' → RunEnds (service_of common) s o ending (tellings_of k k' l l') (k.faults + l.faults) (k'.faults + l'.faults) s x
+  refused_ends (opening.Damaged n key rule) ending x (inl h) c = subst (λ e. RunEnds (service_of common) s o e (tellings_of k k' l l') (k.faults + l.faults) (k'.faults + l'.faults) s x) (sym h.0) (at_damage x n key rule h.1 c)
+  refused_ends (opening.Damaged n key rule) ending x (inr h) c = subst (λ e. RunEnds (service_of common) s o e (tellings_of k k' l l') (k.faults + l.faults) (k'.faults + l'.faults) s x) (sym h.0) (inl (idle_over x (opening.Damaged n key rule) h.1 c))
+  refused_ends opening.StoreFault ending x h c = subst (λ e. RunEnds (service_of common) s o e (tellings_of k k' l l') (k.faults + l.faults) (k'.faults + l'.faults) s x) (sym h.0) (idle_over x opening.StoreFault h.1 c, rose_both c.faults c.old_stays.faults c.new_stays.faults)
+  refused_ends opening.NoMemory ending x h c = subst (λ e. RunEnds (service_of common) s o e (tellings_of k k' l l') (k.faults + l.faults) (k'.faults + l'.faults) s x) (sym h.0) (inl (idle_over x opening.NoMemory h.1 c))
 
-  spoken_refused : (f : OpenFault) (ending : Ending) (x : Output) → Refuses o f ending x → is_bad_words ending ≡ false
-  spoken_refused (opening.Damaged n key rule) ending x (inl h) = ap is_bad_words h.0
-  spoken_refused (opening.Damaged n key rule) ending x (inr h) = ap is_bad_words h.0
-  spoken_refused opening.StoreFault ending x h = ap is_bad_words h.0
-  spoken_refused opening.NoMemory ending x h = ap is_bad_words h.0
-
-  pub over_refused : (f : OpenFault) (ending : Ending) (x : Output) → Refuses o f ending x → OpensPair k l (Err f) k' l' → Over s o k l ending s x k' l'
-  over_refused f ending x said c = record { number = c.old_stays.number; number_new = c.new_stays.number; spoken = spoken_refused f ending x said; ends = refused_ends f ending x said c }
+  pub over_refused : (f : OpenFault) (ending : Ending) (x : Output) → Refuses o f ending x → OpensPair k l (Err f) k' l' → Over (service_of common) s o k l ending s x k' l'
+  over_refused f ending x said c = record { number = c.old_stays.number; number_new = c.new_stays.number; ends = refused_ends f ending x said c }
 
 -- ---- a depot tells of its stores no more than they do
 
@@ -250,7 +235,7 @@ pub record Less (c c' : Tellings) : Type 0 where
 
 -- ---- what is so over the stores is so over the depot
 
-module _ (s : Input) (o : Output) (c c' : Tellings) (t : Input) (x : Output) (less : Less c c') (b n b' n' : ℕ) (zero : b ≡ 0) (grew : min (b' + n) (2 ^ 64 - 1) ≤ n') where
+module _ (common : Common) (s : Input) (o : Output) (c c' : Tellings) (t : Input) (x : Output) (less : Less c c') (b n b' n' : ℕ) (zero : b ≡ 0) (grew : min (b' + n) (2 ^ 64 - 1) ≤ n') where
   carried_caused : (es : List Item) → FaultsRose b es n → FaultsRose b' es n'
   carried_caused es (inl h) = elim (cases_lt n' (2 ^ 64 - 1)) as (λ _. (b' + faults_of es ≤ n') ⊎ (2 ^ 64 - 1 ≤ n')) [
     | inl lt ↦ inl (omega (arith, h, lt, grew))
@@ -264,7 +249,7 @@ module _ (s : Input) (o : Output) (c c' : Tellings) (t : Input) (x : Output) (le
   carried_told : (Q : Contents → Contents → Contents → Contents → Type 0) → WhereTold c Q → WhereTold c' Q
   carried_told Q h = all_less Q c.old_before c.new_before c.old_after c.new_after c'.old_before c'.new_before c'.old_after c'.new_after less.old_before less.new_before less.old_after less.new_after h
 
-  carried_during : (ending : Ending) → During orders s o ending c b n t x → During orders s o ending c' b' n' t x
+  carried_during : (ending : Ending) → During (service_of common) s o ending c b n t x → During (service_of common) s o ending c' b' n' t x
   carried_during ending d = record {
     course = d.course;
     world = d.world;
@@ -280,8 +265,8 @@ module _ (s : Input) (o : Output) (c c' : Tellings) (t : Input) (x : Output) (le
       }) (past_of d.world) 0 d.course.items [] d.answered.fits;
     };
     own = d.own;
-    opened = carried_told (λ a a' b b'. IsOpened orders d.world a a') d.opened;
-    replayed = carried_told (λ a a' b b'. IsReplay orders d.world b b') d.replayed;
+    opened = carried_told (λ a a' b b'. IsOpened (service_of common) d.world a a') d.opened;
+    replayed = carried_told (λ a a' b b'. IsReplay (service_of common) d.world b b') d.replayed;
     caused = carried_caused d.course.items d.caused;
     wrote = d.wrote;
   }
@@ -294,11 +279,11 @@ module _ (s : Input) (o : Output) (c c' : Tellings) (t : Input) (x : Output) (le
     new_same = along_less Same c.new_before c.new_after c'.new_before c'.new_after less.new_before less.new_after i.new_same;
   }
 
-  carried_or : Idle s o c t x ⊎ During orders s o NoMemory c b n t x → Idle s o c' t x ⊎ During orders s o NoMemory c' b' n' t x
+  carried_or : Idle s o c t x ⊎ During (service_of common) s o NoMemory c b n t x → Idle s o c' t x ⊎ During (service_of common) s o NoMemory c' b' n' t x
   carried_or (inl i) = inl (carried_idle i)
   carried_or (inr d) = inr (carried_during NoMemory d)
 
-  carried_damage : AtDamage orders s o c t x → AtDamage orders s o c' t x
+  carried_damage : AtDamage (service_of common) s o c t x → AtDamage (service_of common) s o c' t x
   carried_damage d = record {
     store = d.store;
     key = d.key;
@@ -310,14 +295,9 @@ module _ (s : Input) (o : Output) (c c' : Tellings) (t : Input) (x : Output) (le
     damaged = carried_told (λ a a' b b'. IsDamagedAt (pair_with 0 1 a a') d.store d.key d.rule) d.damaged;
   }
 
-  carried : (ending : Ending) → RunEnds orders s o ending c b n t x → RunEnds orders s o ending c' b' n' t x
+  carried : (ending : Ending) → RunEnds (service_of common) s o ending c b n t x → RunEnds (service_of common) s o ending c' b' n' t x
   carried Served e = carried_during Served e
-  carried BadWords e = (
-    e.0,
-    e.1,
-    along_less Same c.old_before c.old_after c'.old_before c'.old_after less.old_before less.old_after e.2,
-    along_less Same c.new_before c.new_after c'.new_before c'.new_after less.new_before less.new_after e.3,
-  )
+  carried BadWords e = absurd e
   carried ReadFault e = carried_during ReadFault e
   carried WriteFault e = carried_during WriteFault e
   carried StoreFault e = (carried_idle e.0, carried_rose e.1)
@@ -325,9 +305,9 @@ module _ (s : Input) (o : Output) (c c' : Tellings) (t : Input) (x : Output) (le
   carried BadInput e = carried_during BadInput e
   carried NoMemory e = carried_or e
 
-pub over_depot_law : (s : Input) (o : Output) (d d1 d2 d3 d4 : Shelf) (k l k' l' : Store) (ending : Ending) (t : Input) (x : Output)
-    → HandedOut d 0 k d1 → HandedOut d1 1 l d2 → Over s o k l ending t x k' l' → TakesBack d2 k' d3 → TakesBack d3 l' d4 → OverDepot s o d ending t x d4
-over_depot_law s o d d1 d2 d3 d4 k l k' l' ending t x a b over p q =
+pub over_depot_law : (common : Common) (s : Input) (o : Output) (d d1 d2 d3 d4 : Shelf) (k l k' l' : Store) (ending : Ending) (t : Input) (x : Output)
+    → HandedOut d 0 k d1 → HandedOut d1 1 l d2 → Over (service_of common) s o k l ending t x k' l' → TakesBack d2 k' d3 → TakesBack d3 l' d4 → EndsSession (service_of common) s o d ending t x d4
+over_depot_law common s o d d1 d2 d3 d4 k l k' l' ending t x a b over p q =
     let none : k.faults + l.faults ≡ 0 = omega (arith, a.clean, b.clean) in
     let sum : min (d.faults + (k'.faults + l'.faults)) (2 ^ 64 - 1) ≤ d4.faults = omega (arith, a.faults, b.faults, p.faults, q.faults) in
     let zero : k'.number ≡ 0 = over.number ∙ a.number in
@@ -342,8 +322,7 @@ over_depot_law s o d d1 d2 d3 d4 k l k' l' ending t x a b over p q =
     let told1 : d4.told 1 ≡ cond d3.tells l'.told None = subst (λ n. d4.told n ≡ cond d3.tells l'.told None) one q.told in
     let before1 : TellsLess (d.told 1) l.told = subst (λ z. TellsLess z l.told) (a.beside.told 1 ne10) b.told in
     record {
-      spoken = over.spoken;
-      ends = carried s o (tellings_of k k' l l') (depot_tellings d d4) t x
+      ends = carried common s o (tellings_of k k' l l') (depot_tellings d d4) t x
           (record { old_before = a.told; old_after = back_less (d4.told 0) k'.told d2.tells told0; new_before = before1; new_after = back_less (d4.told 1) l'.told d3.tells told1 })
           (k.faults + l.faults) (k'.faults + l'.faults) d.faults d4.faults none sum ending over.ends;
       back = record {
@@ -358,3 +337,13 @@ over_depot_law s o d d1 d2 d3 d4 k l k' l' ending t x a b over p q =
         others = λ n nz ne. qo.told n ne ∙ pz.told n nz ∙ b.beside.told n ne ∙ a.beside.told n nz;
       };
     }
+
+-- ---- a run that finds no memory before it opens a store
+
+pub wants_memory : (asked : Command) (s : Input) (o : Output) (d : Shelf) → AskedEnds (Some asked) s o d NoMemory s o d
+wants_memory (command.Session common) s o d = record {
+  ends = inl (record { source = refl; sink = refl; old_same = same_along (d.told 0); new_same = same_along (d.told 1) });
+  back = record { tells = refl; out = λ n was. was; others = λ n nz ne. refl };
+}
+wants_memory (command.Drill number events common) s o d = (record { source = refl; depot = refl }, inr (refl, refl))
+wants_memory command.Help s o d = (record { source = refl; depot = refl }, inr (refl, refl))

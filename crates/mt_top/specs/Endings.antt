@@ -1,10 +1,9 @@
 -- How a run ends over two open stores, and over a depot.
-use Rattle.std.specs.Prelude.{◌≡◌, ◌⊎◌, ◌+◌, false, Result, Ok, Err}
+use Rattle.std.specs.Prelude.{◌≡◌, ◌⊎◌, ◌+◌, Result, Ok, Err}
 use Rattle.mt_io.specs.Ends.{Input, Output}
 use Rattle.mt_chain.specs.declared.depot.DepotFault.{DepotFault}
 use Rattle.mt_chain.specs.declared.depot.DepotFault.TheVariants as depot
 use Rattle.mt_chain.specs.Store.{Store}
-use Rattle.mt_chain.specs.Shelf.{Shelf}
 use Rattle.mt_open.specs.declared.opening.OpenFault.{OpenFault}
 use Rattle.mt_open.specs.declared.opening.OpenFault.TheVariants as opening
 use Rattle.mt_front.specs.declared.connection.End.TheVariants as end
@@ -16,7 +15,7 @@ use Rattle.mt_front.specs.Session.{Sent, Cut}
 use Rattle.mt_top.specs.declared.running.Ending.{Ending}
 use Rattle.mt_top.specs.declared.running.Ending.TheVariants.{Served, ReadFault, WriteFault, StoreFault, Damaged, BadInput, NoMemory}
 use Rattle.mt_top.specs.Lines.{damage_line}
-use Rattle.mt_top.specs.Run.{is_bad_words, Tellings, RunEnds, HandedBack, depot_tellings, orders}
+use Rattle.mt_top.specs.Run.{Service, Tellings, RunEnds}
 
 -- how the end of a session ends the run
 abbrev pub ending_at : End → Ending
@@ -46,14 +45,7 @@ abbrev pub tellings_of : Store → Store → Store → Store → Tellings
 tellings_of k k' l l' = record { old_before = k.told; old_after = k'.told; new_before = l.told; new_after = l'.told }
 
 -- a run over two open stores
-pub record Over (s : Input) (o : Output) (k l : Store) (ending : Ending) (t : Input) (x : Output) (k' l' : Store) : Type 0 where
+pub record Over (v : Service) (s : Input) (o : Output) (k l : Store) (ending : Ending) (t : Input) (x : Output) (k' l' : Store) : Type 0 where
   pub number : k'.number ≡ k.number
   pub number_new : l'.number ≡ l.number
-  pub spoken : is_bad_words ending ≡ false
-  pub ends : RunEnds orders s o ending (tellings_of k k' l l') (k.faults + l.faults) (k'.faults + l'.faults) t x
-
--- a run over the stores 0 and 1 of a depot
-pub record OverDepot (s : Input) (o : Output) (d : Shelf) (ending : Ending) (t : Input) (x : Output) (d' : Shelf) : Type 0 where
-  pub spoken : is_bad_words ending ≡ false
-  pub ends : RunEnds orders s o ending (depot_tellings d d') d.faults d'.faults t x
-  pub back : HandedBack d d'
+  pub ends : RunEnds v s o ending (tellings_of k k' l l') (k.faults + l.faults) (k'.faults + l'.faults) t x

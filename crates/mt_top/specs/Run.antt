@@ -1,5 +1,5 @@
 -- A run of the program: the words, the stores of the depot, and a session over the world that they are opened as.
-use Rattle.std.specs.Prelude.{◌≡◌, ◌≢◌, ◌⊎◌, ℕ, ◌+◌, ◌-◌, ◌^◌, ◌≤◌, Bool, true, false, not, All, bytes_eq, is_some, string_bytes, String, List, [], ◌∷◌, codes, Option, IfSome}
+use Rattle.std.specs.Prelude.{◌≡◌, ◌≢◌, ◌⊎◌, ℕ, ◌+◌, ◌-◌, ◌^◌, ◌≤◌, true, false, All, is_some, List, [], codes, Option, Some, None, IfSome}
 use Rattle.mt_io.specs.Ends.{Input, Output, Rose}
 use Rattle.mt_model.specs.declared.key.Key.{Key}
 use Rattle.mt_chain.specs.StoreCall.{Contents}
@@ -14,14 +14,13 @@ use Rattle.mt_world.specs.Worlds.{WorldState, IsReplayed}
 use Rattle.mt_front.specs.Items.{Item, faults_of}
 use Rattle.mt_front.specs.Answers.{FitsConnection}
 use Rattle.mt_front.specs.Session.{Sent, Cut, past_of, Course, IsCourse, AtInputEnd, AtClose, IsRefused, AtReadFault, AtWriteFault, AtNoMemory}
+use Rattle.mt_words.specs.declared.command.Common.{Common}
+use Rattle.mt_words.specs.declared.command.Command.{Command}
+use Rattle.mt_words.specs.declared.command.Command.TheVariants as command
+use Rattle.mt_words.specs.Words.{IsCommand, IsNoCommand}
 use Rattle.mt_top.specs.Lines.{damage_line}
 use Rattle.mt_top.specs.declared.running.Ending.{Ending}
 use Rattle.mt_top.specs.declared.running.Ending.TheVariants.{Served, BadWords, ReadFault, WriteFault, StoreFault, Damaged, BadInput, NoMemory}
-
--- the one word `session`
-abbrev pub is_session : {A : Type 0} → List (String A) → Bool
-is_session (word ∷ []) = bytes_eq (string_bytes word) (codes "session")
-is_session words = false
 
 abbrev pub usage : List ℕ
 usage = codes "usage: mtable session|drill|serve [options]\n"
@@ -33,9 +32,9 @@ pub record Service : Type 0 where
   pub new_number : ℕ
   pub limit : ℕ
 
--- `Orders`, over the stores 0 and 1
-abbrev pub orders : Service
-orders = record { table = codes "Orders"; old_number = 0; new_number = 1; limit = 1048576 }
+-- what a command serves: its table, over the stores 0 and 1, with the history that it allows
+abbrev pub service_of : Common → Service
+service_of c = record { table = c.table; old_number = 0; new_number = 1; limit = c.history }
 
 -- the status of each ending
 abbrev pub code_of : Ending → ℕ
@@ -47,16 +46,6 @@ code_of StoreFault = 5
 code_of Damaged = 6
 code_of BadInput = 7
 code_of NoMemory = 9
-
-abbrev pub is_bad_words : Ending → Bool
-is_bad_words BadWords = true
-is_bad_words Served = false
-is_bad_words ReadFault = false
-is_bad_words WriteFault = false
-is_bad_words StoreFault = false
-is_bad_words Damaged = false
-is_bad_words BadInput = false
-is_bad_words NoMemory = false
 
 -- where a store tells before and after, this relates the two
 abbrev pub Along : (Contents → Contents → Type 0) → Option Contents → Option Contents → Type 0
@@ -143,10 +132,14 @@ pub record AtDamage (v : Service) (s : Input) (o : Output) (c : Tellings) (t : I
   pub new_same : Along Same c.new_before c.new_after
   pub damaged : WhereTold c (λ a a' b b'. IsDamagedAt (served_pair v a a') store key rule)
 
--- what each ending says; a store fails the run only while it is opened
+-- the usage line was written, or a first part of it where the write failed
+abbrev pub SaysUsage : Output → Output → Type 0
+SaysUsage o x = Sent o usage x ⊎ Cut o usage x
+
+-- what each ending of a session says; a store fails the run only while it is opened
 abbrev pub RunEnds : Service → Input → Output → Ending → Tellings → ℕ → ℕ → Input → Output → Type 0
 RunEnds v s o Served c before now t x = During v s o Served c before now t x
-RunEnds v s o BadWords c before now t x = (t ≡ s) × (Sent o usage x ⊎ Cut o usage x) × Along Same c.old_before c.old_after × Along Same c.new_before c.new_after
+RunEnds v s o BadWords c before now t x = ⊥
 RunEnds v s o ReadFault c before now t x = During v s o ReadFault c before now t x
 RunEnds v s o WriteFault c before now t x = During v s o WriteFault c before now t x
 RunEnds v s o StoreFault c before now t x = Idle s o c t x × Rose before now
@@ -165,10 +158,46 @@ pub record HandedBack (d d' : Shelf) : Type 0 where
 abbrev pub depot_tellings : Shelf → Shelf → Tellings
 depot_tellings d d' = record { old_before = d.told 0; old_after = d'.told 0; new_before = d.told 1; new_after = d'.told 1 }
 
+-- ---- the words
+
+-- the command that the words spell, or none where they spell none
+abbrev pub AsksFor : List (List ℕ) → Option Command → Type 0
+AsksFor words (Some c) = IsCommand words c
+AsksFor words None = IsNoCommand words
+
+-- the usage line was asked for: it was written, or the write failed
+abbrev pub Helps : Ending → Output → Output → Type 0
+Helps ending o x = ((ending ≡ Served) × Sent o usage x) ⊎ ((ending ≡ WriteFault) × Cut o usage x)
+
+-- nothing was read, and the depot is as before
+pub record IsUnread (s : Input) (d : Shelf) (t : Input) (d' : Shelf) : Type 0 where
+  pub source : t ≡ s
+  pub depot : d' ≡ d
+
+-- a run that opens no store, or that found no memory before it opened one: nothing was written then
+abbrev pub EndsUnopened : (Ending → Output → Output → Type 0) → Input → Output → Shelf → Ending → Input → Output → Shelf → Type 0
+EndsUnopened Says s o d ending t x d' = IsUnread s d t d' × (Says ending o x ⊎ ((ending ≡ NoMemory) × (x ≡ o)))
+
+-- the words are refused with the usage line, whose write may fail
+abbrev pub RefusesWords : Ending → Output → Output → Type 0
+RefusesWords ending o x = (ending ≡ BadWords) × SaysUsage o x
+
+-- a session over the stores 0 and 1 of a depot
+pub record EndsSession (v : Service) (s : Input) (o : Output) (d : Shelf) (ending : Ending) (t : Input) (x : Output) (d' : Shelf) : Type 0 where
+  pub ends : RunEnds v s o ending (depot_tellings d d') d.faults d'.faults t x
+  pub back : HandedBack d d'
+
+-- what a run comes to by what its words ask for; the drill is not built, and its words are refused
+abbrev pub AskedEnds : Option Command → Input → Output → Shelf → Ending → Input → Output → Shelf → Type 0
+AskedEnds None s o d ending t x d' = IsUnread s d t d' × RefusesWords ending o x
+AskedEnds (Some (command.Session common)) s o d ending t x d' = EndsSession (service_of common) s o d ending t x d'
+AskedEnds (Some (command.Drill number events common)) s o d ending t x d' = EndsUnopened RefusesWords s o d ending t x d'
+AskedEnds (Some command.Help) s o d ending t x d' = EndsUnopened Helps s o d ending t x d'
+
 -- a run of the program with these words
-pub record Runs {A : Type 0} (words : List (String A)) (s : Input) (o : Output) (d : Shelf) (status : ℕ) (t : Input) (x : Output) (d' : Shelf) : Type 0 where
+pub record Runs (words : List (List ℕ)) (s : Input) (o : Output) (d : Shelf) (status : ℕ) (t : Input) (x : Output) (d' : Shelf) : Type 0 where
+  pub asked : Option Command
+  pub asks : AsksFor words asked
   pub ending : Ending
   pub status_is : status ≡ code_of ending
-  pub words_are : is_session words ≡ not (is_bad_words ending)
-  pub ends : RunEnds orders s o ending (depot_tellings d d') d.faults d'.faults t x
-  pub back : HandedBack d d'
+  pub ends : AskedEnds asked s o d ending t x d'

@@ -1,32 +1,26 @@
-ghost use Rattle.std.specs.Prelude.{◌≡◌, ◌⊎◌, ℕ, false, true};
+ghost use Rattle.std.specs.Prelude.{◌≡◌, ◌⊎◌, ◌≤◌};
 ghost use Rattle.mt_front.specs.Session.{Sent, Cut};
-ghost use Rattle.mt_top.specs.Run.{is_session, orders, code_of, Runs};
-ghost use Rattle.mt_top.specs.Endings.{ending_at, ending_of, depot_ending, Refuses, Over, OverDepot};
+ghost use Rattle.mt_words.specs.Readings.{texts_of};
+ghost use Rattle.mt_top.specs.Run.{service_of, code_of, Helps, RefusesWords, EndsSession, Runs};
+ghost use Rattle.mt_top.specs.Endings.{ending_at, ending_of, depot_ending, Refuses, Over};
 
 use crate::line::damage_line;
 use mt_chain::{Depot, DepotFault, Keeper};
 use mt_front::{ConnFault, End, Served, session};
 use mt_io::{Sink, Source, send};
-use mt_model::{NoMemory, Text};
+use mt_model::NoMemory;
 use mt_open::OpenFault;
+use mt_words::{Command, Common, Usage, read_words};
 use mt_world::{NotOpened, Stores, World};
 use std::alloc::Global;
 
-#[cfg(test)]
-mod tests;
-
 const USAGE: &[u8] = b"usage: mtable session|drill|serve [options]\n";
-
-/// The table that is served.
-const TABLE: &str = "Orders";
-
-/// How many entries the history of a run may have.
-const HISTORY_LIMIT: u64 = 1_048_576;
 
 /// The exit status of a run.
 ///
 /// 0: the input was whole requests to its end, or to one that ended the connection, and each was
-/// answered. 2: the words are no command. 3: a read failed. 4: a write failed. 5: the depot or a store
+/// answered; or the usage line was asked for, and written. 2: the words are no command, or those of the
+/// drill, which is not built. 3: a read failed. 4: a write failed. 5: the depot or a store
 /// failed while the stores were opened. 6: the stores are no sound pair, and their first damage was
 /// named by a line. 7: the input had something else than a whole request within the limits. 9: the
 /// allocator had no memory.
@@ -38,9 +32,10 @@ pub struct Status {
 /// How a run ended.
 #[derive(Clone, Copy, Debug, PartialEq, Eq)]
 pub enum Ending {
-    /// The input was whole requests to its end, or to one that ended the connection.
+    /// The input was whole requests to its end, or to one that ended the connection; or the usage line
+    /// was written that was asked for.
     Served,
-    /// The words are no command.
+    /// The words are no command that is built.
     BadWords,
     /// A read failed.
     ReadFault,
@@ -70,16 +65,6 @@ impl Ending {
             Ending::BadInput => 7,
             Ending::NoMemory => 9,
         }
-    }
-}
-
-/// Whether these are the words of a session.
-fn asks_for_session(words: &[String]) -> bool
-    ensures { result ≡ is_session words.now }
-{
-    match words {
-        [word] => word.as_str() == "session",
-        _ => false,
     }
 }
 
@@ -114,11 +99,29 @@ fn ending_of_depot(fault: DepotFault) -> Ending
     }
 }
 
-/// Writes all of these bytes, or a first part of them where a write fails.
+/// Writes all of these bytes, or a first part of them where a write fails, which is ignored.
 fn say<T: Sink>(sink: &mut T, bytes: &[u8])
     ensures { Sent (T.output sink.old) bytes.now (T.output sink.new) ⊎ Cut (T.output sink.old) bytes.now (T.output sink.new) }
 {
     let _ = send(sink, bytes);
+}
+
+/// Refuses the words.
+fn refuse_words<T: Sink>(sink: &mut T) -> Ending
+    ensures { RefusesWords result (T.output sink.old) (T.output sink.new) }
+{
+    say(sink, USAGE);
+    Ending::BadWords
+}
+
+/// Writes the usage line that was asked for.
+fn help<T: Sink>(sink: &mut T) -> Ending
+    ensures { Helps result (T.output sink.old) (T.output sink.new) }
+{
+    match send(sink, USAGE) {
+        Ok(()) => Ending::Served,
+        Err(_) => Ending::WriteFault,
+    }
 }
 
 /// How the run ends where two stores were not opened, and writes the line that names a damage.
@@ -141,21 +144,22 @@ fn refuse<T: Sink>(alloc: Global, fault: OpenFault, sink: &mut T) -> Ending
 /// A session over two open stores, which come back in every case.
 fn over_stores<K: Keeper, S: Source, T: Sink>(
     alloc: Global,
-    table: &Text,
+    common: &Common,
     old: K,
     new: K,
     source: &mut S,
     sink: &mut T,
 ) -> (Ending, Stores<K>)
-    requires table { table.now ≡ orders.table }
+    requires some { 1 ≤ common.now.history }
+    requires bounded { common.now.history ≤ 1048576 }
     requires old { (K.state old).number ≡ 0 }
     requires new { (K.state new).number ≡ 1 }
-    ensures { Over (S.input source.old) (T.output sink.old) (K.state old) (K.state new) result.0
+    ensures { Over (service_of common.now) (S.input source.old) (T.output sink.old) (K.state old) (K.state new) result.0
         (S.input source.new) (T.output sink.new) (K.state result.1.old) (K.state result.1.new) }
 {
-    match World::open_world(alloc, old, new, HISTORY_LIMIT) {
+    match World::open_world(alloc, old, new, common.history) {
         Ok(mut world) => {
-            let served = session(alloc, &mut world, table, source, sink);
+            let served = session(alloc, &mut world, &common.table, source, sink);
             (ending_of(served), world.into_stores())
         }
         Err(NotOpened { fault, old, new }) => (refuse(alloc, fault, sink), Stores { old, new }),
@@ -165,16 +169,16 @@ fn over_stores<K: Keeper, S: Source, T: Sink>(
 /// A session over the stores 0 and 1 of a depot, which are handed back.
 fn over_depot<S: Source, T: Sink, D: Depot>(
     alloc: Global,
+    common: &Common,
     source: &mut S,
     sink: &mut T,
     depot: &mut D,
 ) -> Ending
-    ensures { OverDepot (S.input source.old) (T.output sink.old) (D.shelf depot.old) result
+    requires some { 1 ≤ common.now.history }
+    requires bounded { common.now.history ≤ 1048576 }
+    ensures { EndsSession (service_of common.now) (S.input source.old) (T.output sink.old) (D.shelf depot.old) result
         (S.input source.new) (T.output sink.new) (D.shelf depot.new) }
 {
-    let Ok(table) = Text::of(alloc, TABLE) else {
-        return Ending::NoMemory;
-    };
     let old = match depot.open_store(alloc, 0) {
         Ok(old) => old,
         Err(fault) => return ending_of_depot(fault),
@@ -186,20 +190,24 @@ fn over_depot<S: Source, T: Sink, D: Depot>(
             return ending_of_depot(fault);
         }
     };
-    let (ending, stores) = over_stores(alloc, &table, old, new, source, sink);
+    let (ending, stores) = over_stores(alloc, common, old, new, source, sink);
     depot.take_back(stores.old);
     depot.take_back(stores.new);
     ending
 }
 
-/// Runs the program with these words: `session` reads requests on the table `Orders` from the source
-/// and writes their replies to the sink, over the stores 0 and 1 of the depot, which may hold the rows
-/// of any sound pair. The history takes at most 1,048,576 entries. Every store that was opened is
-/// handed back.
+/// Runs the program with these words, which [`mt_words::read_words`] reads.
 ///
-/// Stores that are no sound pair are left as they are: the line `damaged store=S rule=R pk=HEX rk=HEX`
-/// is written, with the number of the store and of the rule, and the bytes of the key in hexadecimal,
-/// in lower case. Nothing is read then, and a failure of that write is ignored.
+/// `session` reads requests on its table from the source and writes their replies to the sink, over the
+/// stores 0 and 1 of the depot, which may hold the rows of any sound pair, with a history of as many
+/// entries as it says. Every store that was opened is handed back. Stores that are no sound pair are
+/// left as they are: the line `damaged store=S rule=R pk=HEX rk=HEX` is written, with the number of the
+/// store and of the rule, and the bytes of the key in hexadecimal, in lower case. Nothing is read then,
+/// and a failure of that write is ignored.
+///
+/// `--help` writes the usage line. Words that are no command are answered by the same line, and so is
+/// `drill`, which is not built; a failure of that write is ignored. None of these opens a store or
+/// reads.
 pub fn run<S: Source, T: Sink, D: Depot>(
     alloc: Global,
     words: &[String],
@@ -207,14 +215,15 @@ pub fn run<S: Source, T: Sink, D: Depot>(
     sink: &mut T,
     depot: &mut D,
 ) -> Status
-    ensures { Runs words.now (S.input source.old) (T.output sink.old) (D.shelf depot.old) result.code
+    ensures { Runs (texts_of words.now) (S.input source.old) (T.output sink.old) (D.shelf depot.old) result.code
         (S.input source.new) (T.output sink.new) (D.shelf depot.new) }
 {
-    let ending = if asks_for_session(words) {
-        over_depot(alloc, source, sink, depot)
-    } else {
-        say(sink, USAGE);
-        Ending::BadWords
+    let ending = match read_words(alloc, words) {
+        Ok(Command::Session { common }) => over_depot(alloc, &common, source, sink, depot),
+        Ok(Command::Help) => help(sink),
+        Ok(Command::Drill { common: _common, .. }) => refuse_words(sink),
+        Err(Usage::Bad) => refuse_words(sink),
+        Err(Usage::NoMemory) => Ending::NoMemory,
     };
     Status {
         code: ending.code(),

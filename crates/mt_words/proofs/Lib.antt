@@ -3,4 +3,5 @@ mod FrontLaws
 mod GivenLaws
 mod ReadLaws
 mod SettingLaws
+pub mod TakenLaws
 mod Theorems

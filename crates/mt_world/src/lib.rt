@@ -6,8 +6,6 @@ mod log;
 mod opening;
 mod replay;
 mod stage;
-#[cfg(test)]
-mod tests;
 mod world;
 
 pub use actor::{Actor, Answer, ClientCall, Progress, Request, TurnFault};

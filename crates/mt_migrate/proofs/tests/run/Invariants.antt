@@ -1,5 +1,0 @@
-use Rattle.mt_migrate.specs.Moves.{GoesOn}
-use Rattle.mt_migrate.proofs.tests.run.Given as goal
-
-abbrev pub invariant-loop-calls : goal.invariant-loop-calls
-invariant-loop-calls l = GoesOn l.migrator

@@ -1,0 +1,99 @@
+//! Batches of operations of one partition.
+ghost use Rattle.std.specs.Prelude.{◌≡◌, None, false, All, IfOk};
+ghost use Rattle.std.specs.List.{list_any};
+ghost use Rattle.mt_model.specs.Key.{key_fault};
+ghost use Rattle.mt_model.specs.Name.{is_hidden};
+ghost use Rattle.mt_rules.specs.Batches.{MayAsk};
+
+use mt_test_stores::one;
+use mt_chain::{Cond, Op};
+use mt_model::{Key, Props};
+use mt_rules::{Batch, check_batch};
+use std::alloc::Global;
+use std::test::Fail;
+
+/// A kind of operation, each with the property `B`.
+#[derive(Clone, Copy)]
+pub enum Do {
+    Insert,
+    Replace(Cond),
+    Merge(Cond),
+    Delete(Cond),
+    InsertOrReplace,
+    InsertOrMerge,
+}
+
+/// An operation on the row of that key.
+pub type Sample<'a> = (&'a str, Do);
+
+/// The visible property `B`.
+fn brought(alloc: Global) -> Result<Props, Fail>
+    ensures { IfOk result (λ ps. list_any (λ p. is_hidden p.name) ps ≡ false) }
+{
+    let props = one(alloc, "B", 1)?;
+    Ok(props.visible(alloc)?)
+}
+
+fn key(alloc: Global, pk: &str, rk: &str) -> Result<Key, Fail>
+    ensures { IfOk result (λ k. key_fault k.pk k.rk ≡ None) }
+{
+    Ok(Key::read(alloc, pk, rk)?)
+}
+
+fn op_of(alloc: Global, pk: &str, sample: Sample<'_>) -> Result<Op, Fail>
+    ensures { IfOk result MayAsk }
+{
+    let (rk, kind) = sample;
+    let key = key(alloc, pk, rk)?;
+    let props = brought(alloc)?;
+    Ok(match kind {
+        Do::Insert => Op::Insert { key, props },
+        Do::Replace(cond) => Op::Replace { key, props, cond },
+        Do::Merge(cond) => Op::Merge { key, props, cond },
+        Do::Delete(cond) => Op::Delete { key, cond },
+        Do::InsertOrReplace => Op::InsertOrReplace { key, props },
+        Do::InsertOrMerge => Op::InsertOrMerge { key, props },
+    })
+}
+
+fn ops_of(alloc: Global, pk: &str, samples: &[Sample<'_>]) -> Result<Vec<Op>, Fail>
+    ensures { IfOk result (λ v. All MayAsk v.items) }
+{
+    let mut ops = Vec::new(alloc);
+    for sample in samples {
+        ops.push(op_of(alloc, pk, *sample)?)?;
+    }
+    Ok(ops)
+}
+
+/// The inserts of `a000`, `a001` and so on, at most 100.
+fn inserts(alloc: Global, count: u32) -> Result<Vec<Op>, Fail>
+    ensures { IfOk result (λ v. All MayAsk v.items) }
+{
+    let mut ops = Vec::new(alloc);
+    for n in 0..count {
+        let (tens, ones) = (n / 10, n % 10);
+        let rk = format!(in alloc; "a0{tens}{ones}")?;
+        ops.push(op_of(alloc, "p", (rk.as_str(), Do::Insert))?)?;
+    }
+    Ok(ops)
+}
+
+fn checked(alloc: Global, ops: Vec<Op>) -> Result<Batch, Fail>
+    requires { All MayAsk ops.items }
+{
+    match check_batch(alloc, ops) {
+        Ok(batch) => Ok(batch),
+        Err(_) => Err(Fail::new("no batch")),
+    }
+}
+
+/// A batch of that partition.
+pub fn batch(alloc: Global, pk: &str, samples: &[Sample<'_>]) -> Result<Batch, Fail> {
+    checked(alloc, ops_of(alloc, pk, samples)?)
+}
+
+/// A batch of so many inserts into the partition `p`, at most 100.
+pub fn insert_batch(alloc: Global, count: u32) -> Result<Batch, Fail> {
+    checked(alloc, inserts(alloc, count)?)
+}
