@@ -29,7 +29,7 @@ use Rattle.mt_meta.specs.Facts.{KnowsRow}
 use Rattle.mt_meta.specs.Steps.{with_old, StepIn}
 use Rattle.mt_meta.proofs.MarkLaws.{client_unmarked}
 use Rattle.mt_meta.proofs.Rules.{old_read, key_cases, to_modes}
-use Rattle.mt_meta.proofs.ShownLaws.{logical_in}
+use Rattle.mt_meta.proofs.ByMarkers.{is_write_state, ranks_at, shows_old, shows_none}
 use Rattle.mt_meta.proofs.ModeLaws.{IsWhole, old_in, new_in, whole, says, early_shows, early_fits, unsealed_empty}
 use Rattle.mt_meta.proofs.Growth.{no_rows}
 use Rattle.mt_meta.proofs.StorePuts.{moves_puts, IsSeen, seen, no_row, the_row}
@@ -43,14 +43,6 @@ IsVisible ps = filter is_visible ps ≡ ps
 
 abbrev pub IsClientPut : List ℕ → Put → Type 0
 IsClientPut pk put = IsPutOf pk IsVisible (Unit {0}) put
-
--- a marker of old that lets clients write there
-abbrev pub is_write_state : OldState → Bool
-is_write_state NoOld = false
-is_write_state AtUseOld = true
-is_write_state AtPreferOld = true
-is_write_state AtPreferNew = false
-is_write_state BadOld = false
 
 -- a write of one partition of old
 pub record OldWrite (p : Pair) (part : List ℕ) (rest : List Put) (n : ℕ) (q : Pair) : Type 0 where
@@ -86,31 +78,6 @@ write_says None = refl
 write_says (Some UseOld) = refl
 write_says (Some PreferOld) = refl
 write_says (Some PreferNew) = refl
-
-write_ranks : (m : Mode) → IsWhole m → is_write_state (old_in m) ≡ true → (1 ≤ rank m) × (rank m ≤ 3)
-write_ranks Empty w h = absurd cc
-write_ranks AtOld w h = (omega arith, omega arith)
-write_ranks Prepared w h = (omega arith, omega arith)
-write_ranks Copying w h = (omega arith, omega arith)
-write_ranks Overlaid w h = absurd cc
-write_ranks Settled w h = absurd cc
-write_ranks NewOnly w h = absurd cc
-write_ranks Broken w h = absurd w
-
-ranks_at : (p : Pair) (pk : List ℕ) → IsSound p → is_write_state (old_state_at p pk) ≡ true → (1 ≤ rank (mode p pk)) × (rank (mode p pk) ≤ 3)
-ranks_at p pk s h = write_ranks (mode p pk) (whole p s pk) (ap is_write_state (sym (says p s pk).old) ∙ h)
-
-pub shows_old : (p : Pair) (pk rk : List ℕ) → IsSound p → is_write_state (old_state_at p pk) ≡ true → rk ≢ marker_key → logical p pk rk ≡ from_old (old_at p pk rk)
-shows_old p pk rk s h other =
-    let r = ranks_at p pk s h in
-    logical_in p pk rk other s ∙ early_shows (mode p pk) r.0 r.1 (old_at p pk rk) (new_at p pk rk)
-
--- without a marker, and where old is not sealed, they see nothing
-pub shows_none : (p : Pair) (pk rk : List ℕ) → IsSound p → old_at p pk marker_key ≡ None → p.old.sealed ≡ false → logical p pk rk ≡ None
-shows_none p pk rk s none open_old = elim (key_cases rk) as (λ _. logical p pk rk ≡ None) [
-  | inl e ↦ ap (logical p pk) e
-  | inr other ↦ logical_in p pk rk other s ∙ ap (λ m. shown_in m (old_at p pk rk) (new_at p pk rk)) (unsealed_empty p pk s (ap old_state none) open_old)
-]
 
 -- ---- a client writes under the marker that it read
 

@@ -15,11 +15,7 @@ use std::alloc::Global;
 pub(crate) fn end_of(rows: &StoredRows, more: bool) -> Option<&Text>
     ensures { option_copied result ≡ end_of (record { rows = rows.now; more = more }) }
 {
-    if more {
-        rows.last_key()
-    } else {
-        None
-    }
+    if more { rows.last_key() } else { None }
 }
 
 /// The lesser of two ends.
