@@ -1,4 +1,4 @@
-use Rattle.std.proofs.Common.{Some, sym, subst}
+use Rattle.std.proofs.Common.{sym, subst}
 use Rattle.std.specs.Prelude.{◌≤◌, IfSome}
 use Rattle.mt_chain.specs.declared.query.Range.{Range}
 use Rattle.mt_query_plan.proofs.range.read.Goals as goal
