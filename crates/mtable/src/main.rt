@@ -3,6 +3,8 @@
 
 use mt_io::{ReadSource, WriteSink};
 use mt_mem::{MemDepot, MemKeeper};
+use mt_model::NoMemory;
+use mt_words::{Command, StoreChoice, Usage, read_words};
 use std::alloc::Global;
 use std::env;
 use std::io::{self, ErrorKind};
@@ -30,21 +32,37 @@ fn words(rt: &HostRuntime) -> io::Result<Vec<String>> {
     Ok(words)
 }
 
-/// Two empty stores in memory, which do not fail.
-fn memory_depot(alloc: Global) -> MemDepot {
-    MemDepot::new(
-        MemKeeper::new(alloc, 0, Vec::new(alloc)),
-        MemKeeper::new(alloc, 1, Vec::new(alloc)),
-    )
+/// Where the command of these words keeps its rows. Words that are no command name the stores in
+/// memory, which are not used then.
+fn stores_of(alloc: Global, words: &[String]) -> Result<StoreChoice, NoMemory> {
+    match read_words(alloc, words) {
+        Ok(Command::Session { common }) => Ok(common.stores),
+        Ok(Command::Drill { common, .. }) => Ok(common.stores),
+        Ok(Command::Help) | Err(Usage::Bad) => Ok(StoreChoice::Plain),
+        Err(Usage::NoMemory) => Err(NoMemory),
+    }
+}
+
+/// Two stores without rows, which do not fail.
+fn depot_of(alloc: Global, stores: StoreChoice) -> MemDepot {
+    match stores {
+        StoreChoice::Plain => MemDepot::new(
+            MemKeeper::new(alloc, 0, Vec::new(alloc)),
+            MemKeeper::new(alloc, 1, Vec::new(alloc)),
+        ),
+    }
 }
 
 fn main(rt: HostRuntime) -> ExitCode {
     let Ok(words) = words(&rt) else {
         return ExitCode::from(NO_MEMORY);
     };
+    let Ok(stores) = stores_of(rt.alloc(), &words) else {
+        return ExitCode::from(NO_MEMORY);
+    };
     let mut source = ReadSource::new(rt.stdin(), 0);
     let mut sink = WriteSink::new(rt.stdout(), 0);
-    let mut depot = memory_depot(rt.alloc());
+    let mut depot = depot_of(rt.alloc(), stores);
     let status = mt_top::run(rt.alloc(), &words, &mut source, &mut sink, &mut depot);
     ExitCode::from(status.code)
 }
