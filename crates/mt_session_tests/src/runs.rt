@@ -8,7 +8,6 @@ use std::test::Fail;
 /// What fails in a run, and how its input is cut. A store's first call comes while it is opened.
 #[derive(Clone, Copy)]
 pub struct Plan {
-
     /// The words of the command, between blanks.
     pub command: &'static str,
     pub piece: usize,

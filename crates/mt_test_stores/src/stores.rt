@@ -3,7 +3,9 @@ ghost use Rattle.std.specs.Prelude.{◌≡◌, IfOk};
 ghost use Rattle.mt_chain.specs.Asks.{CanAsk, FitsAsk};
 ghost use Rattle.mt_chain.specs.Puts.{CanApply};
 
-use mt_chain::{Keeper, Put, Puts, Range, RangeQuery, RkFrom, Side, StoreAsk, StoreReply, StoredRow};
+use mt_chain::{
+    Keeper, Put, Puts, Range, RangeQuery, RkFrom, Side, StoreAsk, StoreReply, StoredRow,
+};
 use mt_mem::MemKeeper;
 use mt_meta::{MARKER_KEY, Mark, NewPhase, Phase, new_marker, old_marker, stored};
 use mt_model::{Hidden, Name, Prop, Props, Tag, Text, Texts, Value};
@@ -81,12 +83,7 @@ fn make(alloc: Global, keeper: &mut MemKeeper, put: Put) -> Result<(), Fail>
 }
 
 /// Inserts a row of the partition `p`.
-pub fn insert(
-    alloc: Global,
-    keeper: &mut MemKeeper,
-    rk: &str,
-    props: Props,
-) -> Result<(), Fail>
+pub fn insert(alloc: Global, keeper: &mut MemKeeper, rk: &str, props: Props) -> Result<(), Fail>
     ensures store { keeper.new.store ≡ keeper.old.store }
     ensures clean { IfOk result (λ _. keeper.new.faults ≡ keeper.old.faults) }
 {
@@ -135,9 +132,7 @@ fn undergo(alloc: Global, keeper: &mut MemKeeper, past: Past) -> Result<(), Fail
         }
         Past::Row(rk, age) => insert(alloc, keeper, rk, one(alloc, "Age", age)?),
         Past::Kept(rk, mark, age) => insert(alloc, keeper, rk, kept(alloc, mark, age)?),
-        Past::Again(rk, mark, age, n) => {
-            replace(alloc, keeper, rk, kept(alloc, mark, age)?, n)
-        }
+        Past::Again(rk, mark, age, n) => { replace(alloc, keeper, rk, kept(alloc, mark, age)?, n) }
         Past::Sealed => seal(alloc, keeper),
     }
 }

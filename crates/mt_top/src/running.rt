@@ -221,7 +221,12 @@ pub fn run<S: Source, T: Sink, D: Depot>(
     let ending = match read_words(alloc, words) {
         Ok(Command::Session { common }) => over_depot(alloc, &common, source, sink, depot),
         Ok(Command::Help) => help(sink),
-        Ok(Command::Drill { common: _common, .. }) => refuse_words(sink),
+        Ok(
+            Command::Drill {
+                common: _common,
+                ..
+            },
+        ) => refuse_words(sink),
         Err(Usage::Bad) => refuse_words(sink),
         Err(Usage::NoMemory) => Ending::NoMemory,
     };

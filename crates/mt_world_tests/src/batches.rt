@@ -5,10 +5,10 @@ ghost use Rattle.mt_model.specs.Key.{key_fault};
 ghost use Rattle.mt_model.specs.Name.{is_hidden};
 ghost use Rattle.mt_rules.specs.Batches.{MayAsk};
 
-use mt_test_stores::one;
 use mt_chain::{Cond, Op};
 use mt_model::{Key, Props};
 use mt_rules::{Batch, check_batch};
+use mt_test_stores::one;
 use std::alloc::Global;
 use std::test::Fail;
 

@@ -1,10 +1,10 @@
 //! Two stores opened as a world, or named as no sound pair.
 ghost use Rattle.std.specs.Prelude.{◌≡◌};
 
-use mt_test_stores::{FILLING, Past, SEEN, TURNED, failing_store, store_of};
 use mt_mem::MemKeeper;
 use mt_meta::{Mark, Phase};
 use mt_open::OpenFault;
+use mt_test_stores::{FILLING, Past, SEEN, TURNED, failing_store, store_of};
 use mt_world::World;
 use std::alloc::Global;
 use std::test::Fail;

@@ -1,11 +1,11 @@
 //! The call of a batch over two stores, one store call after the other.
 use crate::batches::{Do, Sample, batch};
-use mt_test_stores::{FILLING, Past, SEEN, TURNED, kind_of, one, replace, reply_to, store_of};
 use mt_batch_plan::{BatchCall, BatchProgress};
 use mt_chain::{Ask, Cause, Cond, Keeper, Put, Refusal, Side, StoreAsk};
 use mt_mem::MemKeeper;
 use mt_meta::{MARKER_KEY, Mark, NewPhase, Phase};
 use mt_model::{Props, Tag, Text, Texts};
+use mt_test_stores::{FILLING, Past, SEEN, TURNED, kind_of, one, replace, reply_to, store_of};
 use std::alloc::Global;
 use std::test::Fail;
 
@@ -353,7 +353,10 @@ fn merges_old_through_a_copy_while_new_fills(rt: HostRuntime) -> Result<(), Fail
 
 #[test]
 fn a_copy_keeps_its_tag_at_use_new(rt: HostRuntime) -> Result<(), Fail> {
-    let new = [Past::New(NewPhase::UseNew), Past::Kept("r", Mark::Copy(SEEN), 1)];
+    let new = [
+        Past::New(NewPhase::UseNew),
+        Past::Kept("r", Mark::Copy(SEEN), 1),
+    ];
     let replaced = [
         (MARKER_KEY, Did::Check(1)),
         ("r", Did::Replace("live", 2, 2)),

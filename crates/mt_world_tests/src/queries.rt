@@ -1,10 +1,10 @@
 //! The call of a query over two stores, one store call after the other.
-use mt_test_stores::{FILLING, Past, SEEN, TURNED, reply_to, store_of};
 use mt_filter::{Filter, read_filter};
 use mt_mem::MemKeeper;
 use mt_meta::{Mark, NewPhase, Phase};
 use mt_model::{Entity, Text};
 use mt_query_plan::{QueryCall, QueryProgress};
+use mt_test_stores::{FILLING, Past, SEEN, TURNED, reply_to, store_of};
 use std::alloc::Global;
 use std::test::Fail;
 

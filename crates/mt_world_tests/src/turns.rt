@@ -4,11 +4,11 @@ ghost use Rattle.mt_world.specs.Moves.{CanStep};
 ghost use Rattle.mt_world.specs.Turns.{Knows};
 
 use crate::batches::{Do, Sample, batch, insert_batch};
-use mt_test_stores::{FILLING, Past, TURNED, failing_store, rows_text, store_of, tag_text};
 use mt_chain::Cond;
 use mt_history::{History, What};
 use mt_mem::MemKeeper;
 use mt_rules::Batch;
+use mt_test_stores::{FILLING, Past, TURNED, failing_store, rows_text, store_of, tag_text};
 use mt_world::{Actor, Answer, Progress, Request, TurnFault, World};
 use std::alloc::Global;
 use std::test::Fail;
@@ -114,7 +114,9 @@ fn run(alloc: Global, failing: u64, entries: u64, script: Script) -> Result<Stri
 }
 
 const A: &[Sample<'static>] = &[("a", Do::Insert)];
+
 const B: &[Sample<'static>] = &[("b", Do::Insert)];
+
 const A_NOT_B: &[Sample<'static>] = &[("a", Do::Insert), ("b", Do::Delete(Cond::Any))];
 
 #[test]
@@ -201,7 +203,8 @@ fn goes_on_in_new_in_three_turns(rt: HostRuntime) -> Result<(), Fail> {
         "p",
         ("r", Do::Delete(Cond::Any)),
     )?;
-    let want = "0.2 calls 3 rows 0; old \u{1} 0.3 prefer-new;r 0.2 ;new \u{1} 1.1 filling;r 1.2 tomb;";
+    let want =
+        "0.2 calls 3 rows 0; old \u{1} 0.3 prefer-new;r 0.2 ;new \u{1} 1.1 filling;r 1.2 tomb;";
     assert!(rt; got.as_str() == want, "{got}");
     let got = written(alloc, &[Past::Sealed], &[], "q", ("1", Do::Insert))?;
     let want = "1.2 calls 3 rows 1; old new \u{1} 1.1 use-new;1 1.2 live;";

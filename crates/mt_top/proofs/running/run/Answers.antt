@@ -20,38 +20,38 @@ over_depot-ending-requires-clause-bounded g c =
 pub returns : goal.returns
 returns g c = elim c.match-read_words.branch [
   | in-Ok-Session w ↦ rw (w.source-is, w.sink-is, w.depot-is) (record {
-      asked = Some (command.Session w.in-Ok-Session.common);
-      asks = subst (IsCommand (texts_of c.args.words.now)) w.in-Ok-Session.field-0-is w.in-Ok-Session.ensures;
-      ending = w.over_depot-ending.result;
-      status_is = c.code.ensures ∙ ap code_of w.ending-is;
-      ends = w.over_depot-ending.ensures;
-    })
+    asked = Some (command.Session w.in-Ok-Session.common);
+    asks = subst (IsCommand (texts_of c.args.words.now)) w.in-Ok-Session.field-0-is w.in-Ok-Session.ensures;
+    ending = w.over_depot-ending.result;
+    status_is = c.code.ensures ∙ ap code_of w.ending-is;
+    ends = w.over_depot-ending.ensures;
+  })
   | in-Ok-Help w ↦ rw (w.source-is, w.sink-is, w.depot-is) (record {
-      asked = Some command.Help;
-      asks = subst (IsCommand (texts_of c.args.words.now)) w.in-Ok-Help.field-0-is w.in-Ok-Help.ensures;
-      ending = w.help-ending.result;
-      status_is = c.code.ensures ∙ ap code_of w.ending-is;
-      ends = (record { source = refl; depot = refl }, inl w.help-ending.ensures);
-    })
+    asked = Some command.Help;
+    asks = subst (IsCommand (texts_of c.args.words.now)) w.in-Ok-Help.field-0-is w.in-Ok-Help.ensures;
+    ending = w.help-ending.result;
+    status_is = c.code.ensures ∙ ap code_of w.ending-is;
+    ends = (record { source = refl; depot = refl }, inl w.help-ending.ensures);
+  })
   | in-Ok-Drill w ↦ rw (w.source-is, w.sink-is, w.depot-is) (record {
-      asked = Some (command.Drill _ _ _);
-      asks = subst (IsCommand (texts_of c.args.words.now)) w.in-Ok-Drill.field-0-is w.in-Ok-Drill.ensures;
-      ending = w.refuse_words-ending.result;
-      status_is = c.code.ensures ∙ ap code_of w.ending-is;
-      ends = (record { source = refl; depot = refl }, inl w.refuse_words-ending.ensures);
-    })
+    asked = Some (command.Drill _ _ _);
+    asks = subst (IsCommand (texts_of c.args.words.now)) w.in-Ok-Drill.field-0-is w.in-Ok-Drill.ensures;
+    ending = w.refuse_words-ending.result;
+    status_is = c.code.ensures ∙ ap code_of w.ending-is;
+    ends = (record { source = refl; depot = refl }, inl w.refuse_words-ending.ensures);
+  })
   | in-Err-Bad w ↦ rw (w.source-is, w.sink-is, w.depot-is) (record {
-      asked = None;
-      asks = subst (λ u. Reads (texts_of c.args.words.now) (Err u)) w.in-Err-Bad.field-0-is w.in-Err-Bad.ensures;
-      ending = w.refuse_words-ending-in-Err-Bad.result;
-      status_is = c.code.ensures ∙ ap code_of w.ending-is;
-      ends = (record { source = refl; depot = refl }, w.refuse_words-ending-in-Err-Bad.ensures);
-    })
+    asked = None;
+    asks = subst (λ u. Reads (texts_of c.args.words.now) (Err u)) w.in-Err-Bad.field-0-is w.in-Err-Bad.ensures;
+    ending = w.refuse_words-ending-in-Err-Bad.result;
+    status_is = c.code.ensures ∙ ap code_of w.ending-is;
+    ends = (record { source = refl; depot = refl }, w.refuse_words-ending-in-Err-Bad.ensures);
+  })
   | in-Err-NoMemory w ↦ let read = subst (λ u. Reads (texts_of c.args.words.now) (Err u)) w.in-Err-NoMemory.field-0-is w.in-Err-NoMemory.ensures in rw (w.source-is, w.sink-is, w.depot-is) (record {
-      asked = Some read.0;
-      asks = read.1;
-      ending = NoMemory;
-      status_is = c.code.ensures ∙ ap code_of w.ending-is;
-      ends = wants_memory read.0 (g.S.Source.input c.args.source.now) (g.T.Sink.output c.args.sink.now) (g.D.Depot.shelf c.args.depot.now);
-    })
+    asked = Some read.0;
+    asks = read.1;
+    ending = NoMemory;
+    status_is = c.code.ensures ∙ ap code_of w.ending-is;
+    ends = wants_memory read.0 (g.S.Source.input c.args.source.now) (g.T.Sink.output c.args.sink.now) (g.D.Depot.shelf c.args.depot.now);
+  })
 ]
