@@ -1,8 +1,8 @@
 #!/usr/bin/env bash
-# Times 1,000 puts of rows that are there, behind 2,000 and behind 20,000 inserts into one partition of one session,
-# with row keys that rise, and prints the ratio of the two times: near 1 where a put costs the same however many rows
-# are stored and however long the history is. The clock starts when the replies to all inserts are read. Each time is
-# the least of five sessions.
+# Times 1,000 puts of rows that are there, behind 2,000, 20,000 and 100,000 inserts into one partition of one session,
+# with row keys that rise, and prints the ratios to the first time: near 1 where a put costs the depth of the store, and
+# not its size, and the length of the history does not count. The clock starts when the replies to all inserts are read. Each time is
+# the least of nine sessions.
 #
 # Give a program that is built as the argument, else ./mtable builds and runs its own. It takes about a minute.
 set -eu
@@ -15,12 +15,12 @@ import os, random, subprocess, sys, threading, time
 PUTS = 1000
 
 def insert(i):
-    body = '{"PartitionKey":"p","RowKey":"r%05d","A":"some text"}' % i
+    body = '{"PartitionKey":"p","RowKey":"r%06d","A":"some text"}' % i
     return "POST /Orders HTTP/1.1\r\nHost: x\r\nContent-Length: %d\r\n\r\n%s" % (len(body), body)
 
 def put(i):
     body = '{"A":"other text"}'
-    return "PUT /Orders(PartitionKey='p',RowKey='r%05d') HTTP/1.1\r\nHost: x\r\nIf-Match: *\r\nContent-Length: %d\r\n\r\n%s" % (i, len(body), body)
+    return "PUT /Orders(PartitionKey='p',RowKey='r%06d') HTTP/1.1\r\nHost: x\r\nIf-Match: *\r\nContent-Length: %d\r\n\r\n%s" % (i, len(body), body)
 
 def exchange(session, requests, status):
     """Sends the requests and reads a reply of that status to each."""
@@ -45,8 +45,10 @@ def seconds(rows):
     assert session.wait() == 0
     return took
 
-few, many = (min(seconds(rows) for _ in range(5)) for rows in (2000, 20000))
+few = min(seconds(2000) for _ in range(9))
 print("1,000 puts of rows that are there")
-print(f" 2,000 rows stored: {few:6.3f} s")
-print(f"20,000 rows stored: {many:6.3f} s, {many / few:.2f} times as long")
+print(f"  2,000 rows stored: {few:6.4f} s")
+for rows in (20000, 100000):
+    took = min(seconds(rows) for _ in range(9))
+    print(f"{rows:7,} rows stored: {took:6.4f} s, {took / few:.2f} times as long", flush=True)
 PY

@@ -5,4 +5,4 @@ use Rattle.mt_rules.proofs.VisibleLaws.{none_hidden}
 use Rattle.mt_world_tests.proofs.batches.brought.Goals as goal
 
 pub returns : goal.returns
-returns c = ap (list_any (λ p. is_hidden p.name)) c.in_ok-visible.ensures ∙ none_hidden c.in_ok-one.props
+returns c = ap (list_any (λ p. is_hidden p.name)) c.in_ok-visible.ensures ∙ none_hidden c.in_ok-props.props
