@@ -161,7 +161,7 @@ marks_stay : (marks : List Mark) → NoBatches (entries_of marks) → All (λ (m
 marks_stay [] h = All-nil (λ (m : Mark). MayStay m.entry)
 marks_stay (m ∷ marks) h =
     let parts : MayStay m.entry × NoBatches (entries_of marks) =
-    elim m.entry as (λ o. NoBatches (option_to_list o ++ entries_of marks) → MayStay o × NoBatches (entries_of marks)) [ | None ↦ λ g. (tt, g) | Some e ↦ λ g. (g.0, g.1) ] h in
+    elim m.entry as (λ o. NoBatches (option_to_list o ++ entries_of marks) → MayStay o × NoBatches (entries_of marks)) [ None ↦ λ g. (tt, g) | Some e ↦ λ g. (g.0, g.1) ] h in
     All-cons (λ (n : Mark). MayStay n.entry) m marks parts.0 (marks_stay marks parts.1)
 
 -- an operation that was not done

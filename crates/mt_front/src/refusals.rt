@@ -210,7 +210,9 @@ impl BadRequest {
 fn error_object(alloc: Global, code: &str, sentence: &str) -> Result<Blob, NoMemory>
     ensures { IfOk result (λ b. b ≡ error_object code.now sentence.now) }
 {
-    let text = format!(in alloc; "{{\"odata.error\":{{\"code\":\"{code}\",\"message\":{{\"lang\":\"en-US\",\"value\":\"{sentence}\"}}}}}}")?;
+    let text = format!(in alloc;
+        "{{\"odata.error\":{{\"code\":\"{code}\",\"message\":{{\"lang\":\"en-US\",\"value\":\"{sentence}\"}}}}}}"
+    )?;
     Blob::of(alloc, text.as_bytes())
 }
 

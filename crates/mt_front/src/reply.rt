@@ -183,12 +183,7 @@ fn prepare_created(
 /// Prepares the reply to an operation that will be done, whatever the tag of its row will be: 201
 /// with the entity as `mt_json` writes it at the level, or 204. It ends the connection or not. The
 /// one error is want of memory.
-pub fn prepare(
-    alloc: Global,
-    op: &Op,
-    echo: Echo,
-    close: bool,
-) -> Result<Prepared, NoMemory>
+pub fn prepare(alloc: Global, op: &Op, echo: Echo, close: bool) -> Result<Prepared, NoMemory>
     requires { HasEcho echo op.now }
     ensures { IfOk result (IsPrepared echo op.now close) }
 {

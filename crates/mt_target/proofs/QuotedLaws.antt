@@ -13,7 +13,7 @@ abbrev pub EndsQuote : List ℕ → Type 0
 EndsQuote rest = (more : List ℕ) → rest ≢ 39 ∷ more
 
 is_other : (c : ℕ) → c ≢ 39 → (c == 39) ≡ false
-is_other c n = elim (c == 39) as (λ b. (c == 39) ≡ b → (c == 39) ≡ false) [ | true ↦ λ e. absurd (n ((Decides-eqb c 39).0 e)) | false ↦ λ e. e ] refl
+is_other c n = elim (c == 39) as (λ b. (c == 39) ≡ b → (c == 39) ≡ false) [ true ↦ λ e. absurd (n ((Decides-eqb c 39).0 e)) | false ↦ λ e. e ] refl
 
 other_byte : (c : ℕ) → c ≢ 39 → doubled_byte c ≡ c ∷ []
 other_byte c n = ap (λ b. cond b (39 ∷ 39 ∷ []) (c ∷ [])) (is_other c n)
@@ -57,11 +57,11 @@ goes (c ∷ a) x [] s ends e =
 goes (c ∷ a) x (d ∷ u) s ends e =
     byte_cases c (λ z. (z ++ doubled a) ++ x ≡ doubled (d ∷ u) ++ 39 ∷ s → Goes (c ∷ a) x (d ∷ u) s)
     (λ at. byte_cases d (λ z. 39 ∷ 39 ∷ (doubled a ++ x) ≡ (z ++ doubled u) ++ 39 ∷ s → Goes (c ∷ a) x (d ∷ u) s)
-      (λ at' h. goes_more c d a x u s (at ∙ sym at') (goes a x u s ends (rest_same 39 39 (doubled a ++ x) (doubled u ++ 39 ∷ s) (rest_same 39 39 (39 ∷ (doubled a ++ x)) (39 ∷ (doubled u ++ 39 ∷ s)) h))))
-      (λ other h. absurd (other (sym (first_same 39 d (39 ∷ (doubled a ++ x)) (doubled u ++ 39 ∷ s) h)))))
+    (λ at' h. goes_more c d a x u s (at ∙ sym at') (goes a x u s ends (rest_same 39 39 (doubled a ++ x) (doubled u ++ 39 ∷ s) (rest_same 39 39 (39 ∷ (doubled a ++ x)) (39 ∷ (doubled u ++ 39 ∷ s)) h))))
+    (λ other h. absurd (other (sym (first_same 39 d (39 ∷ (doubled a ++ x)) (doubled u ++ 39 ∷ s) h)))))
     (λ other. byte_cases d (λ z. c ∷ (doubled a ++ x) ≡ (z ++ doubled u) ++ 39 ∷ s → Goes (c ∷ a) x (d ∷ u) s)
-      (λ at' h. absurd (other (first_same c 39 (doubled a ++ x) (39 ∷ (doubled u ++ 39 ∷ s)) h)))
-      (λ other' h. goes_more c d a x u s (first_same c d (doubled a ++ x) (doubled u ++ 39 ∷ s) h) (goes a x u s ends (rest_same c d (doubled a ++ x) (doubled u ++ 39 ∷ s) h))))
+    (λ at' h. absurd (other (first_same c 39 (doubled a ++ x) (39 ∷ (doubled u ++ 39 ∷ s)) h)))
+    (λ other' h. goes_more c d a x u s (first_same c d (doubled a ++ x) (doubled u ++ 39 ∷ s) h) (goes a x u s ends (rest_same c d (doubled a ++ x) (doubled u ++ 39 ∷ s) h))))
     e
 
 -- ---- what was read
@@ -86,8 +86,8 @@ same_quoted bytes t r u s b k =
     elim g.0 as (λ v. u ≡ t ++ v → 39 ∷ r ≡ doubled v ++ 39 ∷ s → (t ≡ u) × (r ≡ s)) [
       | [] ↦ λ f h. (sym (f ∙ append-nil t), rest_same 39 39 r s h)
       | c ∷ v ↦ λ f h. absurd (byte_cases c (λ z. 39 ∷ r ≡ (z ++ doubled v) ++ 39 ∷ s → ⊥)
-        (λ at i. b.ends (doubled v ++ 39 ∷ s) (rest_same 39 39 r (39 ∷ (doubled v ++ 39 ∷ s)) i))
-        (λ other i. other (sym (first_same 39 c r (doubled v ++ 39 ∷ s) i))) h)
+          (λ at i. b.ends (doubled v ++ 39 ∷ s) (rest_same 39 39 r (39 ∷ (doubled v ++ 39 ∷ s)) i))
+          (λ other i. other (sym (first_same 39 c r (doubled v ++ 39 ∷ s) i))) h)
     ] g.1 g.2
 
 -- ---- steps of the reading

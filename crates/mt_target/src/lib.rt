@@ -8,6 +8,6 @@ mod split;
 mod target;
 mod targets;
 
-pub use options::{has_repeat, has_option};
+pub use options::{has_option, has_repeat};
 pub use target::{Keys, QueryOption, QueryOptions, Service, Spelled, Target};
 pub use targets::read_target;

@@ -102,11 +102,7 @@ fn names_table(alloc: Global, opened: Option<&str>) -> Result<bool, NoMemory>
 }
 
 /// What a path names behind its slash.
-fn read_name(
-    alloc: Global,
-    name: &str,
-    opened: Option<&str>,
-) -> Result<Option<Target>, NoMemory>
+fn read_name(alloc: Global, name: &str, opened: Option<&str>) -> Result<Option<Target>, NoMemory>
     ensures { Found (NamedBy name.now (opened_text opened.entry)) result }
 {
     if is_same_table("Tables", name) {

@@ -6,10 +6,7 @@ use mt_model::{NoMemory, Text};
 use std::alloc::Global;
 
 /// The text in quotes at the front, in which a doubled quote is a quote, and what follows it.
-pub fn read_quoted<'a>(
-    alloc: Global,
-    bytes: &'a str,
-) -> Result<Option<(Text, &'a str)>, NoMemory>
+pub fn read_quoted<'a>(alloc: Global, bytes: &'a str) -> Result<Option<(Text, &'a str)>, NoMemory>
     ensures { QuotedAs bytes.now result }
 {
     let Some(mut rest) = after(bytes, "'") else {

@@ -1,8 +1,8 @@
 use super::{Asked, Echo, asked_by};
 use crate::refusals::BadRequest;
-use mt_json::Level;
 use mt_chain::{Cond, Op};
 use mt_http_in::{Field, Fields, Incoming};
+use mt_json::Level;
 use mt_model::{Blob, Key, Name, Prop, Props, Tag, Text, Value};
 use std::alloc::Global;
 use std::test::Fail;
@@ -226,8 +226,16 @@ fn preferences(rt: HostRuntime) -> Result<(), Fail> {
     for (first, second, echo) in [
         (NONE, NONE, Echo::Entity(Level::Minimal)),
         (quiet, NONE, Echo::NoContent),
-        (("Prefer", "return-content"), NONE, Echo::Entity(Level::Minimal)),
-        (("Prefer", "return-no-content, wait=1"), NONE, Echo::Entity(Level::Minimal)),
+        (
+            ("Prefer", "return-content"),
+            NONE,
+            Echo::Entity(Level::Minimal),
+        ),
+        (
+            ("Prefer", "return-no-content, wait=1"),
+            NONE,
+            Echo::Entity(Level::Minimal),
+        ),
         (wait, quiet, Echo::Entity(Level::Minimal)),
         (quiet, wait, Echo::NoContent),
         (("If-Match", "nonsense"), NONE, Echo::Entity(Level::Minimal)),
