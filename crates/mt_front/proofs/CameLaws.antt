@@ -13,18 +13,21 @@ use Rattle.mt_world.specs.declared.actor.Answer.{Answer}
 use Rattle.mt_world.specs.declared.actor.TurnFault.{TurnFault}
 use Rattle.mt_world.specs.declared.actor.TurnFault.TheVariants as fault
 use Rattle.mt_world.specs.Worlds.{WorldState, Tells, table_now, entry_of}
-use Rattle.mt_world.specs.Moves.{NewEntry}
+use Rattle.mt_world.specs.Moves.{NewEntry, fault_entry}
 use Rattle.mt_world.specs.Logs.{entries_with}
 use Rattle.mt_world.specs.Turns.{IsSameWorld, RepliesAt}
 use Rattle.mt_world.specs.WholeCalls.{Mark, BatchAnswers, batch_entry}
 use Rattle.mt_world.specs.Turns as turns
 use Rattle.mt_front.specs.declared.refusals.BadRequest.{BadRequest}
 use Rattle.mt_front.specs.declared.asks.Asked.TheVariants as asked
+use Rattle.mt_front.specs.declared.asks.Echo.{Echo}
 use Rattle.mt_front.specs.declared.connection.Outcome.{Outcome}
-use Rattle.mt_front.specs.Items.{Bad, is_full, is_fault}
-use Rattle.mt_front.specs.Answers.{Past, FitsFrom, RepliesFound, NoneOf, Counts, IsCaused, MayStay, past_end, entries_from, table_found}
+use Rattle.mt_front.specs.declared.connection.Outcome.TheVariants as outcome
+use Rattle.std.specs.List.{AllByRecursion}
+use Rattle.mt_front.specs.Items.{Bad, is_full, is_fault, entries_of}
+use Rattle.mt_front.specs.Answers.{Past, FitsFrom, RepliesFound, NoneOf, Counts, AtMost, IsCaused, BreaksOff, MayStay, past_end, entries_from, table_found}
 use Rattle.mt_front.specs.Session.{past_of, counts_of, ToldBefore, Added}
-use Rattle.mt_front.specs.Turns.{CameOut, LeavesNothing, Tried, outcome_of, left_by}
+use Rattle.mt_front.specs.Turns.{CameOut, BrokeOff, LeavesNothing, Tried, tried_item, outcome_of, left_by}
 use Rattle.mt_front.proofs.FitLaws.{grown}
 use Rattle.mt_front.proofs.OwnLaws.{AreOwn, left_at, room_at, marks_at, none_at, table_at}
 use Rattle.mt_front.proofs.CauseLaws.{most_self}
@@ -132,6 +135,65 @@ tried c w w' op o marks r told a left full faulty still =
       };
       caused = λ echo keep reply. record { later = record { old_store = a.old_faults; new_store = a.new_faults }; rose = λ f. a.cause (faulty f); still = λ n. still n };
       added = record { more = own; grew = grew; own = own_callers c e own more.2; retired = a.retired };
+    }
+
+-- ---- an item that broke off
+
+past_same : (w w' : WorldState) → LeavesNothing w w' → past_of w' ≡ past_of w
+past_same w w' n = past_grown w w' [] n.same (n.entries ∙ sym (append-nil w.history.entries)) ∙ ap (λ (l : List Entry). record { window = record { first = w.history.first; base = (past_of w).window.base; entries = l }; limit = w.history.limit }) (append-nil w.history.entries)
+
+-- where nothing was left there is no mark
+pub left_nothing : (c : ℕ) (w w' : WorldState) → LeavesNothing w w' → BrokeOff c w [] w'
+left_nothing c w w' n = record {
+  same = n.same;
+  told = n.told;
+  breaks = subst (λ p. BreaksOff c (Tells w') p (past_end (past_of w)) []) (sym (past_same w w' n)) (fits_none c (Tells w') (past_of w));
+  added = record { more = []; grew = n.entries ∙ sym (append-nil w.history.entries); own = All-nil (λ (e : Entry). e.caller ≡ c); retired = n.retired };
+  later = subst (λ t. AtMost (counts_of w) t) (sym n.still) (most_self (counts_of w));
+  still = λ e. n.still;
+}
+
+-- no entry of these is a batch that was applied
+abbrev pub NoBatches : List NewEntry → Type 0
+NoBatches es = AllByRecursion (λ e. MayStay (Some e)) es
+
+marks_stay : (marks : List Mark) → NoBatches (entries_of marks) → All (λ (m : Mark). MayStay m.entry) marks
+marks_stay [] h = All-nil (λ (m : Mark). MayStay m.entry)
+marks_stay (m ∷ marks) h =
+    let parts : MayStay m.entry × NoBatches (entries_of marks) =
+    elim m.entry as (λ o. NoBatches (option_to_list o ++ entries_of marks) → MayStay o × NoBatches (entries_of marks)) [ None ↦ λ g. (tt, g) | Some e ↦ λ g. (g.0, g.1) ] h in
+    All-cons (λ (n : Mark). MayStay n.entry) m marks parts.0 (marks_stay marks parts.1)
+
+-- an operation that was not done
+abbrev pub IsUndone : Outcome → Type 0
+IsUndone (outcome.Done tag) = ⊥
+IsUndone (outcome.Refused refusal) = Unit {0}
+IsUndone outcome.Fault = Unit {0}
+IsUndone outcome.Full = Unit {0}
+
+left_stays : (op : Op) (o : Outcome) → IsUndone o → NoBatches (left_by op o)
+left_stays op (outcome.Done tag) u = absurd u
+left_stays op (outcome.Refused refusal) u = (λ batch tags e. cc, tt)
+left_stays op outcome.Fault u = (λ batch tags e. cc, tt)
+left_stays op outcome.Full u = tt
+
+none_still : (c : ℕ) (w w' : WorldState) (op : Op) (o : Outcome) (marks : List Mark) (echo : Echo) → IsUndone o → Tried c w op o marks w' → marks ≡ [] → counts_of w' ≡ counts_of w
+none_still c w w' op (outcome.Done tag) marks echo u t none = absurd u
+none_still c w w' op (outcome.Refused refusal) marks echo u t none = (t.caused echo true []).still refl
+none_still c w w' op outcome.Fault marks echo u t none = absurd (let e : ◌≡◌ {A = List NewEntry} [] (fault_entry ∷ []) = sym (ap entries_of none) ∙ t.left in cc)
+none_still c w w' op outcome.Full marks echo u t none = (t.caused echo true []).still refl
+
+-- an operation was tried and not done, and there was no memory for its reply
+pub tried_off : (c : ℕ) (w w' : WorldState) (op : Op) (o : Outcome) (marks : List Mark) (echo : Echo) → IsUndone o → Tried c w op o marks w' → BrokeOff c w marks w'
+tried_off c w w' op o marks echo u t =
+    let came : CameOut c w (tried_item op o echo true marks []) w' = t.came echo true [] in
+    record {
+      same = came.same;
+      told = came.told;
+      breaks = record { marks = came.fits.0.marks; no_batch = marks_stay marks (subst NoBatches (sym t.left) (left_stays op o u)); behind_them = came.fits.1.behind_them };
+      added = t.added;
+      later = (t.caused echo true []).later;
+      still = none_still c w w' op o marks echo u t;
     }
 
 pub tried_in_vain : (c : ℕ) (w w' : WorldState) (op : Op) (marks : List Mark) → ToldBefore w w' → BatchAnswers w c (op ∷ []) marks (Err fault.NoMemory) w' → counts_of w' ≡ counts_of w → LeavesNothing w w'

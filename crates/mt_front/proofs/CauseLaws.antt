@@ -3,8 +3,9 @@ use Rattle.std.proofs.Common.{◌≡◌, ◌+◌, ◌-◌, ◌^◌, ◌≤◌, m
 use Rattle.std.specs.Prelude.{◌⊎◌}
 use Rattle.std.proofs.lemmas.Bool.{cases_lt}
 use Rattle.mt_chain.specs.Store.{Rose}
+use Rattle.mt_world.specs.WholeCalls.{Mark}
 use Rattle.mt_front.specs.Items.{Item, is_fault, faults_of}
-use Rattle.mt_front.specs.Answers.{Counts, AtMost, IsCaused, AreCaused}
+use Rattle.mt_front.specs.Answers.{Counts, AtMost, IsCaused, AreCaused, AreCausedTo}
 
 pub most_self : (s : Counts) → AtMost s s
 most_self s = record { old_store = omega arith; new_store = omega arith }
@@ -57,7 +58,7 @@ end_later s t p (inl h) = inl (omega (arith, h, p.old_store))
 end_later s t p (inr h) = inr (omega (arith, h, p.new_store))
 
 -- items that were answered that a store failed are no more than the rise of the two counts together
-pub caused_sum : (s t : Counts) (items : List Item) → AreCaused s items t → (s.old_store + s.new_store + faults_of items ≤ t.old_store + t.new_store) ⊎ ((2 ^ 64 - 1 ≤ t.old_store) ⊎ (2 ^ 64 - 1 ≤ t.new_store))
+caused_sum : (s t : Counts) (items : List Item) → AreCaused s items t → (s.old_store + s.new_store + faults_of items ≤ t.old_store + t.new_store) ⊎ ((2 ^ 64 - 1 ≤ t.old_store) ⊎ (2 ^ 64 - 1 ≤ t.new_store))
 caused_sum s t [] h = let le : AtMost s t = all_later s t [] h in inl (omega (arith, le.old_store, le.new_store))
 caused_sum s t (i ∷ items) h =
     let sum : faults_of (i ∷ items) ≡ faults_of (i ∷ []) + faults_of items = faults_first i items (is_fault i.outcome) refl in
@@ -68,3 +69,17 @@ caused_sum s t (i ∷ items) h =
         | inl rest ↦ inl (omega (arith, sum, one, rest))
       ]
     ]
+
+-- ---- up to an item that broke off
+
+pub caused_whole : (s t : Counts) (items : List Item) → AreCausedTo s items [] t → AreCaused s items t
+caused_whole s t items h = subst (AreCaused s items) (sym (h.still refl)) h.items_are
+
+pub caused_all : (s t : Counts) (items : List Item) → AreCaused s items t → AreCausedTo s items [] t
+caused_all s t items h = record { at = t; items_are = h; later = most_self t; still = λ e. refl }
+
+pub caused_to_sum : (s t : Counts) (items : List Item) (broken : List Mark) → AreCausedTo s items broken t → (s.old_store + s.new_store + faults_of items ≤ t.old_store + t.new_store) ⊎ ((2 ^ 64 - 1 ≤ t.old_store) ⊎ (2 ^ 64 - 1 ≤ t.new_store))
+caused_to_sum s t items broken h = elim (caused_sum s h.at items h.items_are) as (λ _. (s.old_store + s.new_store + faults_of items ≤ t.old_store + t.new_store) ⊎ AtEnd t) [
+  | inl sum ↦ let le : AtMost h.at t = h.later in inl (omega (arith, sum, le.old_store, le.new_store))
+  | inr at ↦ inr (end_later h.at t h.later at)
+]

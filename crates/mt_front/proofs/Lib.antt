@@ -3,7 +3,6 @@ mod BodyKeyLaws
 mod CallLaws
 mod CameLaws
 pub mod CauseLaws
-mod ClosingLaws
 pub mod FitLaws
 mod OwnLaws
 mod RefusalLaws

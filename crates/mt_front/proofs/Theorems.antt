@@ -8,26 +8,7 @@ use Rattle.mt_http_in.specs.Requests.{Spells as SpellsRequest, Refuses}
 use Rattle.mt_http_in.proofs.UniqueLaws.{Same, one_request, refused_is_no_request}
 use Rattle.mt_front.specs.Asks.{WholeAsks, request_by}
 use Rattle.mt_front.specs.Items.{Item}
-use Rattle.mt_front.specs.Spells.{SpellsAll}
-
--- two items of one request
-pub record AreAlike (table : List ℕ) (i j : Item) : Type 0 where
-  pub head : RequestHead
-  pub body : List ℕ
-  pub first : WholeAsks table (request_by head body) i.asks
-  pub second : WholeAsks table (request_by head body) j.asks
-  pub keep : i.keep ≡ j.keep
-
--- as many items, of the same requests
-abbrev pub AllAlike : List ℕ → List Item → List Item → Type 0
-AllAlike table [] [] = Unit {0}
-AllAlike table [] (j ∷ js) = ⊥
-AllAlike table (i ∷ is) [] = ⊥
-AllAlike table (i ∷ is) (j ∷ js) = AreAlike table i j × AllAlike table is js
-
--- no whole request stands at the front of these bytes
-abbrev pub HasNoWhole : List ℕ → Type 0
-HasNoWhole rest = (h : RequestHead) (body p more : List ℕ) → SpellsRequest h body p → rest ≡ p ++ more → ⊥
+use Rattle.mt_front.specs.Spells.{SpellsAll, AllAlike, HasNoWhole}
 
 -- where bytes are refused, no whole request stands at their front
 pub refused_ends : (rest : List ℕ) (code : Code) (said : List ℕ) → Refuses rest code said → HasNoWhole rest

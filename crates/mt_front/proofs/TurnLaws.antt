@@ -17,6 +17,10 @@ use Rattle.mt_http_in.specs.Requests as http
 use Rattle.mt_world.specs.Worlds.{WorldState}
 use Rattle.mt_world.specs.WholeCalls.{Mark}
 use Rattle.mt_chain.specs.declared.op.Op.{Op}
+use Rattle.mt_model.specs.declared.text.NoMemory.{NoMemory as NoRoom}
+use Rattle.mt_http_out.specs.declared.reply.Reply.{Reply}
+use Rattle.mt_http_out.specs.Rendering.{bytes_of}
+use Rattle.mt_front.specs.declared.refusals.BadRequest.{BadRequest}
 use Rattle.mt_front.specs.declared.refusals.BadRequest.TheVariants as bad
 use Rattle.mt_front.specs.declared.asks.Asked.{Asked}
 use Rattle.mt_front.specs.declared.asks.Asked.TheVariants as asked
@@ -28,14 +32,14 @@ use Rattle.mt_front.specs.declared.connection.ConnFault.{ConnFault}
 use Rattle.mt_front.specs.declared.connection.ConnFault.TheVariants.{ReadFault, WriteFault, NoMemory}
 use Rattle.mt_front.specs.declared.connection.Turn.{Turn}
 use Rattle.mt_front.specs.declared.connection.Turn.TheVariants.{Ended}
-use Rattle.mt_front.specs.Refusals.{head_refusal, bad_reply, cause_reply, fault_reply, full_reply, closing, sent_as}
+use Rattle.mt_front.specs.Refusals.{head_refusal, bad_reply, cause_reply, fault_reply, full_reply, Makes}
 use Rattle.mt_front.specs.Replies.{IsDoneReply}
 use Rattle.mt_front.specs.Asks.{RequestAsks, AsksUnpacked, request_by, request_of}
 use Rattle.mt_front.specs.Items.{Item, Bad, Renders, IsRendered, entries_of}
 use Rattle.mt_front.specs.Answers.{IsCaused}
 use Rattle.mt_front.specs.Session.{Sent, Cut, counts_of, Added, IsSaid}
-use Rattle.mt_front.specs.Turns.{CameOut, Tries, outcome_of, tried_item, left_by, WritesReply, RepliedAs, Answering, AnswersAs, AnswersOne, AnswersWhole, AnswersWholeAs, AnswersRequest, RefusesAs, FaultedAs, AnswersFault, OneMore, IsRefusal, StarvedAt, TurnAs, SessionTurn, turn_behind, turn_refused, refusal_bytes, LeavesNothing}
-use Rattle.mt_front.proofs.CameLaws.{same_self, told_self, came_bad, caused_bad, added_self}
+use Rattle.mt_front.specs.Turns.{CameOut, Tries, outcome_of, tried_item, left_by, WritesReply, RepliedAs, SaysReply, SaysMade, BrokeOff, Answering, AnswersAs, AnswersOne, AnswersWhole, AnswersWholeAs, AnswersRequest, RefusesAs, FaultedAs, AnswersFault, OneMore, IsRefusal, StarvedAt, TurnAs, SessionTurn, turn_behind, turn_refused, refusal_bytes, LeavesNothing}
+use Rattle.mt_front.proofs.CameLaws.{same_self, told_self, came_bad, caused_bad, left_nothing, IsUndone, tried_off, added_self}
 
 -- ---- bytes sent one after the other
 
@@ -56,30 +60,48 @@ cut_after o y x a b le p q =
 -- ---- an answer whose reply was tried
 
 -- the bytes are the reply to an operation that came to this
-abbrev pub RepliesWrite : Op → Echo → Outcome → List ℕ → Type 0
-RepliesWrite op echo (outcome.Done tag) bytes = IsDoneReply echo op tag bytes
-RepliesWrite op echo (outcome.Refused refusal) bytes = bytes ≡ cause_reply refusal.cause
-RepliesWrite op echo outcome.Fault bytes = bytes ≡ fault_reply
-RepliesWrite op echo outcome.Full bytes = bytes ≡ full_reply
+abbrev pub RepliesWrite : Op → Echo → Outcome → Bool → List ℕ → Type 0
+RepliesWrite op echo (outcome.Done tag) close bytes = IsDoneReply echo op tag close bytes
+RepliesWrite op echo (outcome.Refused refusal) close bytes = bytes ≡ bytes_of (cause_reply refusal.cause close)
+RepliesWrite op echo outcome.Fault close bytes = bytes ≡ bytes_of (fault_reply close)
+RepliesWrite op echo outcome.Full close bytes = bytes ≡ bytes_of (full_reply close)
+
+-- a reply that was made, or was not
+pub says_made : (o x : Output) (want : Reply) (made : Result Reply NoRoom) (r : Result (Unit {0}) ConnFault) → Makes want made → SaysMade o made r x → SaysReply o (bytes_of want) r x
+says_made o x want (Ok given) r m s = subst (λ v. SaysReply o (bytes_of v) r x) m.0 s
+says_made o x want (Err e) r m s = subst (λ v. SaysReply o (bytes_of want) v x) (sym s.0) (record { faults = subst (λ (z : Output). o.faults ≤ z.faults) (sym s.1) (let le : o.faults ≤ o.faults = omega arith in le); said = s.1 })
 
 module _ (c : ℕ) (w w' : WorldState) (o x : Output) where
-  pub answered : (asks : Asked) (keep : Bool) (item : Item) (r : Result (Unit {0}) ConnFault) → item.asks ≡ asks → item.keep ≡ keep → CameOut c w item w' → IsCaused (counts_of w) item (counts_of w') → Added c w w' → IsRendered item → WritesReply o (sent_as keep item.reply) r x → AnswersOne c w o asks keep r w' x
+  pub answered : (asks : Asked) (keep : Bool) (item : Item) (r : Result (Unit {0}) ConnFault) → item.asks ≡ asks → item.keep ≡ keep → CameOut c w item w' → IsCaused (counts_of w) item (counts_of w') → Added c w w' → IsRendered item → WritesReply o item.reply r x → AnswersOne c w o asks keep r w' x
   answered asks keep item (Ok u) is kept came cause added rendered reply = record { faults_out = reply.faults; answers = record { item = item; is_asked = is; keep_is = kept; came = came; caused = cause; added = added; rendered = rendered; replied = reply.replied } }
   answered asks keep item (Err ReadFault) is kept came cause added rendered reply = absurd reply.replied
   answered asks keep item (Err WriteFault) is kept came cause added rendered reply = record { faults_out = reply.faults; answers = record { item = item; is_asked = is; keep_is = kept; came = came; caused = cause; added = added; rendered = rendered; replied = reply.replied } }
   answered asks keep item (Err NoMemory) is kept came cause added rendered reply = absurd reply.replied
 
-  -- an operation that was tried, whose bytes are the reply to what it came to
-  rendered_by : (op : Op) (echo : Echo) (out : Outcome) (marks : List Mark) (bytes : List ℕ) → entries_of marks ≡ left_by op out → RepliesWrite op echo out bytes → Renders (asked.Write op echo) (outcome_of out) marks bytes
-  rendered_by op echo (outcome.Done tag) marks bytes left is = (left, is)
-  rendered_by op echo (outcome.Refused refusal) marks bytes left is = (left, is)
-  rendered_by op echo outcome.Fault marks bytes left is = (left, is)
-  rendered_by op echo outcome.Full marks bytes left is = (left, is)
+  -- so for a reply that takes memory; where there is none, these are the marks that were left
+  pub answered_or : (asks : Asked) (keep : Bool) (item : Item) (r : Result (Unit {0}) ConnFault) (broken : List Mark) → item.asks ≡ asks → item.keep ≡ keep → CameOut c w item w' → IsCaused (counts_of w) item (counts_of w') → Added c w w' → IsRendered item
+      → BrokeOff c w broken w' → SaysReply o item.reply r x → AnswersOne c w o asks keep r w' x
+  answered_or asks keep item (Ok u) broken is kept came cause added rendered off reply = answered asks keep item (Ok u) is kept came cause added rendered (record { faults = reply.faults; replied = reply.said })
+  answered_or asks keep item (Err ReadFault) broken is kept came cause added rendered off reply = absurd reply.said
+  answered_or asks keep item (Err WriteFault) broken is kept came cause added rendered off reply = answered asks keep item (Err WriteFault) is kept came cause added rendered (record { faults = reply.faults; replied = reply.said })
+  answered_or asks keep item (Err NoMemory) broken is kept came cause added rendered off reply = record { faults_out = reply.faults; answers = (broken, off, reply.said) }
 
-  pub tried_answered : (op : Op) (echo : Echo) (keep : Bool) (out : Outcome) (bytes : List ℕ) (r : Result (Unit {0}) ConnFault) → Tries c w op (Ok out) w' → RepliesWrite op echo out bytes → WritesReply o (sent_as keep bytes) r x → AnswersOne c w o (asked.Write op echo) keep r w' x
+  -- an operation that was tried, whose bytes are the reply to what it came to
+  rendered_by : (op : Op) (echo : Echo) (out : Outcome) (marks : List Mark) (close : Bool) (bytes : List ℕ) → entries_of marks ≡ left_by op out → RepliesWrite op echo out close bytes → Renders (asked.Write op echo) (outcome_of out) marks close bytes
+  rendered_by op echo (outcome.Done tag) marks close bytes left is = (left, is)
+  rendered_by op echo (outcome.Refused refusal) marks close bytes left is = (left, is)
+  rendered_by op echo outcome.Fault marks close bytes left is = (left, is)
+  rendered_by op echo outcome.Full marks close bytes left is = (left, is)
+
+  pub tried_said : (op : Op) (echo : Echo) (keep : Bool) (out : Outcome) (bytes : List ℕ) (r : Result (Unit {0}) ConnFault) → IsUndone out → Tries c w op (Ok out) w' → RepliesWrite op echo out (not keep) bytes → SaysReply o bytes r x → AnswersOne c w o (asked.Write op echo) keep r w' x
+  tried_said op echo keep out bytes r undone tries is reply =
+      answered_or (asked.Write op echo) keep (tried_item op out echo keep tries.0 bytes) r tries.0 refl refl (tries.1.came echo keep bytes) (tries.1.caused echo keep bytes) tries.1.added
+      (rendered_by op echo out tries.0 (not keep) bytes tries.1.left is) (tried_off c w w' op out tries.0 echo undone tries.1) reply
+
+  pub tried_answered : (op : Op) (echo : Echo) (keep : Bool) (out : Outcome) (bytes : List ℕ) (r : Result (Unit {0}) ConnFault) → Tries c w op (Ok out) w' → RepliesWrite op echo out (not keep) bytes → WritesReply o bytes r x → AnswersOne c w o (asked.Write op echo) keep r w' x
   tried_answered op echo keep out bytes r tries is reply =
       answered (asked.Write op echo) keep (tried_item op out echo keep tries.0 bytes) r refl refl (tries.1.came echo keep bytes) (tries.1.caused echo keep bytes) tries.1.added
-      (rendered_by op echo out tries.0 bytes tries.1.left is) reply
+      (rendered_by op echo out tries.0 (not keep) bytes tries.1.left is) reply
 
   -- the answer to a request that asks for this
   pub whole_answered : (table : List ℕ) (v : Incoming) (asks : Asked) (turn : Turn) → RequestAsks table (request_of v) asks → turn ≡ turn_behind v.keep → AnswersOne c w o asks v.keep (Ok tt) w' x → AnswersRequest c table w o v (Ok turn) w' x
@@ -95,8 +117,13 @@ module _ (c : ℕ) (w w' : WorldState) (o x : Output) where
 
 -- ---- what was refused
 
-pub refused_sent : (o x : Output) (code : Code) (close : Bool) (bytes : List ℕ) (turn : Turn) → bytes ≡ bad_reply (head_refusal code) → turn ≡ turn_refused code close → WritesReply o (sent_as (not close) bytes) (Ok tt) x → RefusesAs o code close (Ok turn) x
-refused_sent o x code close bytes turn is at y = (at, subst (λ b. Sent o (sent_as (not close) b) x) is y.replied)
+pub refused_sent : (o x : Output) (code : Code) (close : Bool) (refusal : BadRequest) (turn : Turn) → refusal ≡ head_refusal code → turn ≡ turn_refused code close → SaysReply o (bytes_of (bad_reply refusal close)) (Ok tt) x → RefusesAs o code close (Ok turn) x
+refused_sent o x code close refusal turn is at y = (at, subst (λ r. Sent o (bytes_of (bad_reply r close)) x) is y.said)
+
+pub refused_not : (o x : Output) (code : Code) (close : Bool) (refusal : BadRequest) (f : ConnFault) → refusal ≡ head_refusal code → SaysReply o (bytes_of (bad_reply refusal close)) (Err f) x → RefusesAs o code close (Err f) x
+refused_not o x code close refusal ReadFault is y = absurd y.said
+refused_not o x code close refusal WriteFault is y = subst (λ r. Cut o (bytes_of (bad_reply r close)) x) is y.said
+refused_not o x code close refusal NoMemory is y = y.said
 
 -- ---- a turn: a request was read, and then answered
 
@@ -130,7 +157,7 @@ module _ (c : ℕ) (table kept : List ℕ) (s : Input) (o : Output) (w : WorldSt
 
   -- the head of a whole request, whose 100 Continue was written
   said_of : (h : RequestHead) (body : List ℕ) → Got kept s o h body kept' t y → IsSaid (ahead kept s) (continue_of h)
-  said_of h body got = inr (
+  said_of h body got = inr (inl (
     h,
     record {
       is_head = got.whole.head;
@@ -138,13 +165,13 @@ module _ (c : ℕ) (table kept : List ℕ) (s : Input) (o : Output) (w : WorldSt
       at = got.spent.same ∙ ap (λ b. before_known b (ahead kept' t)) got.whole.is ∙ sym (before_before (print_request h) got.whole.coda (ahead kept' t));
       spoken = refl;
     },
-  )
+  ))
 
   turn_by : (v : Incoming) (r : Result Turn ConnFault) → ReadsRequest kept s o (Ok (Some v)) kept' t y → AnswersWholeAs c table w y v r w' x → TurnAs c table kept s o w r kept' t x w'
   turn_by v (Ok turn) read a = subst (λ n. TurnAs c table kept s o w (Ok n) kept' t x w') (sym a.0) (went_on v.keep (one_more v (Ok tt) read a.1))
   turn_by v (Err ReadFault) read a = absurd a
   turn_by v (Err WriteFault) read a = inl (v.keep, one_more v (Err WriteFault) read a)
-  turn_by v (Err NoMemory) read a = (a.0, record { said = continue_of read.read.0; spoken = said_of read.read.0 read.read.1 read.read.2; sent = subst (λ z. Sent o (continue_of read.read.0) z) (sym a.1) read.read.2.said })
+  turn_by v (Err NoMemory) read a = (a.0, a.1, record { said = continue_of read.read.0; spoken = said_of read.read.0 read.read.1 read.read.2; sent = subst (λ z. Sent o (continue_of read.read.0) z) (sym a.2) read.read.2.said })
 
   pub turn_answered : (v : Incoming) (r : Result Turn ConnFault) → ReadsRequest kept s o (Ok (Some v)) kept' t y → AnswersRequest c table w y v r w' x → SessionTurn c table kept s o w r kept' t x w'
   turn_answered v r read a = record { later = read.later; faults_out = let f : o.faults ≤ y.faults = read.later_out.faults in omega (arith, f, a.faults_out); turn = turn_by v r read a.answers }
@@ -155,7 +182,7 @@ not_not : (b : Bool) → not (not b) ≡ b
 not_not true = refl
 not_not false = refl
 
-leaves_nothing : (w : WorldState) → LeavesNothing w w
+pub leaves_nothing : (w : WorldState) → LeavesNothing w w
 leaves_nothing w = record { same = same_self w; retired = refl; told = told_self w; entries = refl; still = refl }
 
 module _ (c : ℕ) (table kept : List ℕ) (s : Input) (o : Output) (w : WorldState) (kept' : List ℕ) (t : Input) (y x : Output) (later : o.faults ≤ y.faults) where
@@ -164,20 +191,20 @@ module _ (c : ℕ) (table kept : List ℕ) (s : Input) (o : Output) (w : WorldSt
     said = n.bytes;
     spoken = elim n.spoken as (λ _. IsSaid (ahead kept s) n.bytes) [
       | inl none ↦ inl none
-      | inr i ↦ inr (i.head, record { is_head = i.is_head; rest = ahead i.kept' i.t; at = i.spent.same; spoken = i.spoken })
+      | inr i ↦ inr (inl (i.head, record { is_head = i.is_head; rest = ahead i.kept' i.t; at = i.spent.same; spoken = i.spoken }))
     ];
     sent = n.said;
   }
 
-  refusal_of : (code : Code) (close : Bool) → Closes code → (b : ClosedBy kept s o code close t y) → IsRefusal kept s (b.bytes ++ closing (bad_reply (head_refusal code))) t
+  refusal_of : (code : Code) (close : Bool) → Closes code → (b : ClosedBy kept s o code close t y) → IsRefusal kept s (b.bytes ++ bytes_of (bad_reply (head_refusal code) true)) t
   refusal_of code close closes b = record { code = code; said = b.bytes; closes = closes; refuses = b.refuses; owed_is = refl; ended = b.ended }
 
-  closed_bytes : (code : Code) (close : Bool) → close ≡ true → refusal_bytes code close ≡ closing (bad_reply (head_refusal code))
-  closed_bytes code close e = ap (λ b. sent_as (not b) (bad_reply (head_refusal code))) e
+  closed_bytes : (code : Code) (close : Bool) → close ≡ true → refusal_bytes code close ≡ bytes_of (bad_reply (head_refusal code) true)
+  closed_bytes code close e = ap (λ b. bytes_of (bad_reply (head_refusal code) b)) e
 
   closed_turn : (code : Code) (close : Bool) (r : Result Turn ConnFault) → Closes code → turn_refused code close ≡ Ended BadInput → ClosedBy kept s o code close t y → RefusesAs y code close r x → TurnAs c table kept s o w r kept' t x w
   closed_turn code close (Ok turn) closes is b a =
-      let reply = closing (bad_reply (head_refusal code)) in
+      let reply = bytes_of (bad_reply (head_refusal code) true) in
       subst (λ n. TurnAs c table kept s o w (Ok n) kept' t x w) (sym (a.0 ∙ is)) (
         b.bytes ++ reply,
         refusal_of code close closes b,
@@ -186,17 +213,17 @@ module _ (c : ℕ) (table kept : List ℕ) (s : Input) (o : Output) (w : WorldSt
       )
   closed_turn code close (Err ReadFault) closes is b a = absurd a
   closed_turn code close (Err WriteFault) closes is b a =
-      let reply = closing (bad_reply (head_refusal code)) in
+      let reply = bytes_of (bad_reply (head_refusal code) true) in
       inr (inr (
         b.bytes ++ reply,
         refusal_of code close closes b,
         cut_after o y x b.bytes reply later b.said (subst (λ z. Cut y z x) (closed_bytes code close b.closes) a),
         refl,
       ))
-  closed_turn code close (Err NoMemory) closes is b a = absurd a
+  closed_turn code close (Err NoMemory) closes is b a = ([], left_nothing c w w (leaves_nothing w), record { said = b.bytes; spoken = inr (inr (code, closes, b.refuses)); sent = subst (λ z. Sent o b.bytes z) (sym a) b.said })
 
   abbrev pub packed_item : Bool → Item
-  packed_item close = record { asks = asked.Refused bad.CompressedBody; keep = not close; outcome = Bad bad.CompressedBody; reply = bad_reply bad.CompressedBody; marks = [] }
+  packed_item close = record { asks = asked.Refused bad.CompressedBody; keep = not close; outcome = Bad bad.CompressedBody; reply = bytes_of (bad_reply bad.CompressedBody (not (not close))); marks = [] }
 
   packed_more : (close : Bool) (r : Result (Unit {0}) ConnFault) (p : Packed kept s o close kept' t y) → Answering c w y (asked.Refused bad.CompressedBody) (not close) r w x → OneMore c table kept s o w (not close) r kept' t x w
   packed_more close r p a = record {
@@ -216,11 +243,11 @@ module _ (c : ℕ) (table kept : List ℕ) (s : Input) (o : Output) (w : WorldSt
     item = packed_item close;
     is_asked = refl;
     keep_is = refl;
-    came = came_bad c w bad.CompressedBody (not close) (bad_reply bad.CompressedBody);
-    caused = caused_bad (counts_of w) bad.CompressedBody (not close) (bad_reply bad.CompressedBody);
+    came = came_bad c w bad.CompressedBody (not close) (bytes_of (bad_reply bad.CompressedBody (not (not close))));
+    caused = caused_bad (counts_of w) bad.CompressedBody (not close) (bytes_of (bad_reply bad.CompressedBody (not (not close))));
     added = added_self c w;
     rendered = (refl, refl, refl);
-    replied = reply;
+    replied = subst (λ b. RepliedAs y (bytes_of (bad_reply bad.CompressedBody b)) r x) (sym (not_not close)) reply;
   }
 
   packed_turn : (close : Bool) (r : Result Turn ConnFault) → Packed kept s o close kept' t y → RefusesAs y CompressedBody close r x → TurnAs c table kept s o w r kept' t x w
@@ -228,7 +255,11 @@ module _ (c : ℕ) (table kept : List ℕ) (s : Input) (o : Output) (w : WorldSt
       subst (λ n. TurnAs c table kept s o w (Ok n) kept' t x w) (sym a.0) (went_on c table kept s o w kept' t y x w (not close) (packed_more close (Ok tt) p (packed_answer close (Ok tt) a.1)))
   packed_turn close (Err ReadFault) p a = absurd a
   packed_turn close (Err WriteFault) p a = inl (not close, packed_more close (Err WriteFault) p (packed_answer close (Err WriteFault) a))
-  packed_turn close (Err NoMemory) p a = absurd a
+  packed_turn close (Err NoMemory) p a = (
+    [],
+    left_nothing c w w (leaves_nothing w),
+    record { said = continue_of p.head; spoken = said_of c table kept s o w kept' t y x w p.head p.body p.got; sent = subst (λ z. Sent o (continue_of p.head) z) (sym a) p.got.said },
+  )
 
   refused_turn : (code : Code) (close : Bool) (r : Result Turn ConnFault) → RefusedAs kept s o code close kept' t y → RefusesAs y code close r x → TurnAs c table kept s o w r kept' t x w
   refused_turn InvalidHead close r b a = closed_turn InvalidHead close r tt refl b a
@@ -240,7 +271,7 @@ module _ (c : ℕ) (table kept : List ℕ) (s : Input) (o : Output) (w : WorldSt
   faulted_turn : (f : InFault) (r : Result Turn ConnFault) → ReadsRequest kept s o (Err f) kept' t y → FaultedAs y f r x → TurnAs c table kept s o w r kept' t x w
   faulted_turn fault.ReadFault r read a = subst (λ n. TurnAs c table kept s o w n kept' t x w) (sym a.0) (subst (λ z. http.BrokeIn kept s o t z) (sym a.1) read.read, refl)
   faulted_turn fault.WriteFault r read a = subst (λ n. TurnAs c table kept s o w n kept' t x w) (sym a.0) (inr (inl (subst (λ z. http.BrokeOut kept s o kept' t z) (sym a.1) read.read, refl)))
-  faulted_turn fault.NoMemory r read a = subst (λ n. TurnAs c table kept s o w n kept' t x w) (sym a.0) (leaves_nothing w, subst (λ z. StarvedAt (ahead kept s) o z) (sym a.1) (starved_at read.read))
+  faulted_turn fault.NoMemory r read a = subst (λ n. TurnAs c table kept s o w n kept' t x w) (sym a.0) ([], left_nothing c w w (leaves_nothing w), subst (λ z. StarvedAt (ahead kept s) o z) (sym a.1) (starved_at read.read))
   faulted_turn (fault.Refused status code close) r read a = refused_turn code close r read.read.1 a
 
 pub turn_faulted : (c : ℕ) (table kept : List ℕ) (s : Input) (o : Output) (w : WorldState) (kept' : List ℕ) (t : Input) (y x : Output) (f : InFault) (r : Result Turn ConnFault) → ReadsRequest kept s o (Err f) kept' t y → AnswersFault y f r x → SessionTurn c table kept s o w r kept' t x w

@@ -138,3 +138,10 @@ pub record IsCaused (s : Counts) (i : Item) (t : Counts) : Type 0 where
 abbrev pub AreCaused : Counts → List Item → Counts → Type 0
 AreCaused s [] t = t ≡ s
 AreCaused s (i ∷ items) t = (m : Counts) × IsCaused s i m × AreCaused m items t
+
+-- so up to an item that broke off with these marks, where one did, in whose turns a count may have risen
+pub record AreCausedTo (s : Counts) (items : List Item) (broken : List Mark) (t : Counts) : Type 0 where
+  pub at : Counts
+  pub items_are : AreCaused s items at
+  pub later : AtMost at t
+  pub still : broken ≡ [] → t ≡ at

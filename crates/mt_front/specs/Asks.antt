@@ -9,6 +9,7 @@ use Rattle.mt_json.specs.declared.read.Body.{Body}
 use Rattle.mt_json.specs.declared.read.JsonFault.{JsonFault}
 use Rattle.mt_json.specs.declared.read.KeyUse.TheVariants.{InBody, InTarget}
 use Rattle.mt_json.specs.Body.{ReadsAs}
+use Rattle.mt_json.specs.declared.write.Level.TheVariants.{Minimal}
 use Rattle.mt_chain.specs.declared.op.Cond.{Cond}
 use Rattle.mt_chain.specs.declared.op.Cond.TheVariants as cond
 use Rattle.mt_chain.specs.declared.op.Op.{Op}
@@ -51,7 +52,7 @@ KeyedBy (Some fault) then asked = IsRefused (key_refusal fault) asked
 
 abbrev pub insert_echo : Bool → Echo
 insert_echo true = echo.NoContent
-insert_echo false = echo.Entity
+insert_echo false = echo.Entity Minimal
 
 -- the two texts of a body's key
 pub record BodyHasKeys (body : Body) (pk rk : List ℕ) : Type 0 where

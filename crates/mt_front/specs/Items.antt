@@ -1,5 +1,5 @@
 -- The items of a connection: what each asks, how it came out, and the reply that shows what its entries in the history reply.
-use Rattle.std.specs.Prelude.{◌≡◌, ℕ, Bool, true, false, All, List, [], ◌∷◌, ◌++◌, length, filter, Option, Some, None}
+use Rattle.std.specs.Prelude.{◌≡◌, ℕ, Bool, true, false, not, All, List, [], ◌∷◌, ◌++◌, length, filter, Option, Some, None}
 use Rattle.std.specs.List.{flat_map}
 use Rattle.std.specs.Option.{option_to_list}
 use Rattle.mt_model.specs.declared.tag.Tag.{Tag}
@@ -11,6 +11,7 @@ use Rattle.mt_history.specs.declared.model.Reply.TheVariants as reply
 use Rattle.mt_front.specs.declared.refusals.BadRequest.{BadRequest}
 use Rattle.mt_front.specs.declared.asks.Asked.{Asked}
 use Rattle.mt_front.specs.declared.asks.Asked.TheVariants as asked
+use Rattle.mt_http_out.specs.Rendering.{bytes_of}
 use Rattle.mt_front.specs.Refusals.{bad_reply, cause_reply, fault_reply, full_reply}
 use Rattle.mt_front.specs.Replies.{IsDoneReply}
 use Rattle.mt_world.specs.Moves.{NewEntry, fault_entry}
@@ -24,7 +25,7 @@ pub data ItemOutcome : Type 0 where
   Fault : ItemOutcome
   Full : ItemOutcome
 
--- what is asked, whether the connection goes on behind it, how it came out, the reply to one that goes on, and a mark for each turn: where it found the history's end, and what it left there
+-- what is asked, whether the connection goes on behind it, how it came out, the bytes of its reply, and a mark for each turn: where it found the history's end, and what it left there
 pub record Item : Type 0 where
   pub asks : Asked
   pub keep : Bool
@@ -71,22 +72,22 @@ refused_entry batch refusal = record { what = what.Refused batch; reply = reply.
 abbrev pub entries_of : List Mark → List NewEntry
 entries_of marks = flat_map (λ m. option_to_list m.entry) marks
 
--- what is asked came out so, with these marks; and the bytes are the reply, which shows what their entries reply
-abbrev pub Renders : Asked → ItemOutcome → List Mark → List ℕ → Type 0
-Renders (asked.Write op echo) (Bad r) marks bytes = ⊥
-Renders (asked.Write op echo) (Done tag) marks bytes = (entries_of marks ≡ applied_entry (op ∷ []) (tag ∷ []) ∷ []) × IsDoneReply echo op tag bytes
-Renders (asked.Write op echo) (Refused refusal) marks bytes = (entries_of marks ≡ refused_entry (op ∷ []) refusal ∷ []) × (bytes ≡ cause_reply refusal.cause)
-Renders (asked.Write op echo) Fault marks bytes = (entries_of marks ≡ fault_entry ∷ []) × (bytes ≡ fault_reply)
-Renders (asked.Write op echo) Full marks bytes = (entries_of marks ≡ []) × (bytes ≡ full_reply)
-Renders (asked.Refused r) (Bad q) marks bytes = (q ≡ r) × (marks ≡ []) × (bytes ≡ bad_reply r)
-Renders (asked.Refused r) (Done tag) marks bytes = ⊥
-Renders (asked.Refused r) (Refused refusal) marks bytes = ⊥
-Renders (asked.Refused r) Fault marks bytes = ⊥
-Renders (asked.Refused r) Full marks bytes = ⊥
+-- what is asked came out so, with these marks; and the bytes are the reply, which shows what their entries reply, and ends the connection or not
+abbrev pub Renders : Asked → ItemOutcome → List Mark → Bool → List ℕ → Type 0
+Renders (asked.Write op echo) (Bad r) marks close bytes = ⊥
+Renders (asked.Write op echo) (Done tag) marks close bytes = (entries_of marks ≡ applied_entry (op ∷ []) (tag ∷ []) ∷ []) × IsDoneReply echo op tag close bytes
+Renders (asked.Write op echo) (Refused refusal) marks close bytes = (entries_of marks ≡ refused_entry (op ∷ []) refusal ∷ []) × (bytes ≡ bytes_of (cause_reply refusal.cause close))
+Renders (asked.Write op echo) Fault marks close bytes = (entries_of marks ≡ fault_entry ∷ []) × (bytes ≡ bytes_of (fault_reply close))
+Renders (asked.Write op echo) Full marks close bytes = (entries_of marks ≡ []) × (bytes ≡ bytes_of (full_reply close))
+Renders (asked.Refused r) (Bad q) marks close bytes = (q ≡ r) × (marks ≡ []) × (bytes ≡ bytes_of (bad_reply r close))
+Renders (asked.Refused r) (Done tag) marks close bytes = ⊥
+Renders (asked.Refused r) (Refused refusal) marks close bytes = ⊥
+Renders (asked.Refused r) Fault marks close bytes = ⊥
+Renders (asked.Refused r) Full marks close bytes = ⊥
 
--- the item's reply is that to what it asks
+-- the item's reply is that to what it asks, and ends the connection where it does not go on
 abbrev pub IsRendered : Item → Type 0
-IsRendered i = Renders i.asks i.outcome i.marks i.reply
+IsRendered i = Renders i.asks i.outcome i.marks (not i.keep) i.reply
 
 -- ---- the end of a connection
 

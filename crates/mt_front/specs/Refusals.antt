@@ -1,6 +1,7 @@
--- Replies that say why nothing was done, as bytes: responses of HTTP/1.1 with an error object of OData's JSON format.
-use Rattle.std.specs.Prelude.{ℕ, Bool, true, false, nat_eq, List, [], ◌∷◌, ◌++◌, length, codes, decimal, Option, Some, None, if◌then◌else◌}
-use Rattle.std.specs.List.{starts_with}
+-- Why requests are refused, and the replies that say so, with an error object of OData's JSON format.
+use Rattle.std.specs.Prelude.{◌≡◌, ℕ, ◌==◌, nat_eq, Bool, true, not, ◌&&◌, List, [], ◌∷◌, ◌++◌, codes, Option, Some, None, Result, Ok, Err}
+use Rattle.std.specs.Set.{is_member}
+use Rattle.mt_model.specs.declared.text.NoMemory.{NoMemory as NoRoom}
 use Rattle.mt_model.specs.declared.key.KeyFault.{KeyFault}
 use Rattle.mt_model.specs.declared.key.KeyFault.TheVariants as key
 use Rattle.mt_model.specs.declared.props.PropsFault.{PropsFault}
@@ -11,6 +12,9 @@ use Rattle.mt_chain.specs.declared.op.Cause.{Cause}
 use Rattle.mt_chain.specs.declared.op.Cause.TheVariants as cause
 use Rattle.mt_http_in.specs.declared.Code.{Code}
 use Rattle.mt_http_in.specs.declared.Code.TheVariants as head
+use Rattle.mt_http_out.specs.declared.reply.Reply.{Reply}
+use Rattle.mt_http_out.specs.declared.reply.ReplyField.{ReplyField}
+use Rattle.mt_http_out.specs.Rendering.{statuses, IsReply}
 use Rattle.mt_front.specs.declared.refusals.BadRequest.{BadRequest}
 use Rattle.mt_front.specs.declared.refusals.BadRequest.TheVariants.{InvalidHead, InvalidFraming, RequestBodyTooLarge, InvalidBody, CompressedBody, NotImplemented, MissingIfMatch, BadETag, KeyTooLong, KeyCharacter, InvalidJson, MissingKey, Double, BadName, BadType, TooManyProperties, PropertyTooLarge, EntityTooLarge}
 
@@ -47,18 +51,19 @@ body_refusal (json.BadType name) = Some BadType
 body_refusal (json.Props fault) = props_refusal fault
 body_refusal json.NoMemory = None
 
--- ---- bytes
+-- ---- replies
 
 -- the error object of a code and a sentence
 abbrev pub error_object : List ℕ → List ℕ → List ℕ
 error_object code sentence = codes "{\"odata.error\":{\"code\":\"" ++ code ++ codes "\",\"message\":{\"lang\":\"en-US\",\"value\":\"" ++ sentence ++ codes "\"}}}"
 
--- a response of that status line with this body
-abbrev pub json_response : List ℕ → List ℕ → List ℕ
-json_response status body = codes "HTTP/1.1 " ++ status ++ codes "\r\nContent-Type: application/json\r\nContent-Length: " ++ decimal (length body) ++ codes "\r\n\r\n" ++ body
+-- the body is JSON
+abbrev pub json_type : ReplyField
+json_type = record { name = codes "Content-Type"; value = codes "application/json" }
 
-abbrev pub error_reply : List ℕ → List ℕ → List ℕ → List ℕ
-error_reply status code sentence = json_response status (error_object code sentence)
+-- a reply of that status with that error object, behind which the connection ends or goes on
+abbrev pub error_reply : ℕ → List ℕ → List ℕ → Bool → Reply
+error_reply status code sentence close = record { status = status; fields = json_type ∷ []; body = error_object code sentence; close = close }
 
 -- the code of a refusal before anything is tried
 abbrev pub bad_code : BadRequest → List ℕ
@@ -102,62 +107,55 @@ bad_sentence TooManyProperties = codes "The entity has too many properties."
 bad_sentence PropertyTooLarge = codes "A property value is too large."
 bad_sentence EntityTooLarge = codes "The entity is too large."
 
--- its status line, behind the version
-abbrev pub bad_status : BadRequest → List ℕ
-bad_status InvalidHead = codes "400 Bad Request"
-bad_status InvalidFraming = codes "400 Bad Request"
-bad_status RequestBodyTooLarge = codes "413 Payload Too Large"
-bad_status InvalidBody = codes "400 Bad Request"
-bad_status CompressedBody = codes "501 Not Implemented"
-bad_status NotImplemented = codes "501 Not Implemented"
-bad_status MissingIfMatch = codes "400 Bad Request"
-bad_status BadETag = codes "400 Bad Request"
-bad_status KeyTooLong = codes "400 Bad Request"
-bad_status KeyCharacter = codes "400 Bad Request"
-bad_status InvalidJson = codes "400 Bad Request"
-bad_status MissingKey = codes "400 Bad Request"
-bad_status Double = codes "400 Bad Request"
-bad_status BadName = codes "400 Bad Request"
-bad_status BadType = codes "400 Bad Request"
-bad_status TooManyProperties = codes "400 Bad Request"
-bad_status PropertyTooLarge = codes "400 Bad Request"
-bad_status EntityTooLarge = codes "400 Bad Request"
+-- its status
+abbrev pub bad_status : BadRequest → ℕ
+bad_status InvalidHead = 400
+bad_status InvalidFraming = 400
+bad_status RequestBodyTooLarge = 413
+bad_status InvalidBody = 400
+bad_status CompressedBody = 501
+bad_status NotImplemented = 501
+bad_status MissingIfMatch = 400
+bad_status BadETag = 400
+bad_status KeyTooLong = 400
+bad_status KeyCharacter = 400
+bad_status InvalidJson = 400
+bad_status MissingKey = 400
+bad_status Double = 400
+bad_status BadName = 400
+bad_status BadType = 400
+bad_status TooManyProperties = 400
+bad_status PropertyTooLarge = 400
+bad_status EntityTooLarge = 400
 
-abbrev pub bad_reply : BadRequest → List ℕ
-bad_reply r = error_reply (bad_status r) (bad_code r) (bad_sentence r)
+abbrev pub bad_reply : BadRequest → Bool → Reply
+bad_reply r close = error_reply (bad_status r) (bad_code r) (bad_sentence r) close
 
 -- the reply to an operation that the table refuses
-abbrev pub cause_reply : Cause → List ℕ
-cause_reply cause.NotFound = error_reply (codes "404 Not Found") (codes "ResourceNotFound") (codes "The specified resource does not exist.")
-cause_reply cause.Exists = error_reply (codes "409 Conflict") (codes "EntityAlreadyExists") (codes "The specified entity already exists.")
-cause_reply cause.ConditionFailed = error_reply (codes "412 Precondition Failed") (codes "UpdateConditionNotSatisfied") (codes "The update condition was not satisfied.")
-cause_reply cause.TooManyProperties = bad_reply TooManyProperties
-cause_reply cause.EntityTooLarge = bad_reply EntityTooLarge
+abbrev pub cause_reply : Cause → Bool → Reply
+cause_reply cause.NotFound close = error_reply 404 (codes "ResourceNotFound") (codes "The specified resource does not exist.") close
+cause_reply cause.Exists close = error_reply 409 (codes "EntityAlreadyExists") (codes "The specified entity already exists.") close
+cause_reply cause.ConditionFailed close = error_reply 412 (codes "UpdateConditionNotSatisfied") (codes "The update condition was not satisfied.") close
+cause_reply cause.TooManyProperties close = bad_reply TooManyProperties close
+cause_reply cause.EntityTooLarge close = bad_reply EntityTooLarge close
 
 -- the reply where a store failed
-abbrev pub fault_reply : List ℕ
-fault_reply = error_reply (codes "500 Internal Server Error") (codes "StoreFault") (codes "A store failed.")
+abbrev pub fault_reply : Bool → Reply
+fault_reply close = error_reply 500 (codes "StoreFault") (codes "A store failed.") close
 
 -- the reply where the history is full
-abbrev pub full_reply : List ℕ
-full_reply = error_reply (codes "507 Insufficient Storage") (codes "HistoryFull") (codes "The history is full.")
+abbrev pub full_reply : Bool → Reply
+full_reply close = error_reply 507 (codes "HistoryFull") (codes "The history is full.") close
 
--- ---- replies that end the connection
+-- the reply where there is no memory, behind which the connection ends
+abbrev pub memory_reply : Reply
+memory_reply = error_reply 503 (codes "NoMemory") (codes "Not enough memory.") true
 
--- an empty line follows the line that ends here
-abbrev pub ends_head : List ℕ → Bool
-ends_head bytes = starts_with nat_eq bytes (codes "\r\n\r\n")
+-- a status of the server's replies whose body is not empty
+abbrev pub is_error_status : ℕ → Bool
+is_error_status status = is_member nat_eq statuses status && not (status == 204)
 
--- the field that ends the connection, behind another
-abbrev pub close_field : List ℕ
-close_field = codes "\r\nConnection: close"
-
--- the reply with that field behind its last one, which an empty line follows
-abbrev pub closing : List ℕ → List ℕ
-closing [] = close_field
-closing (c ∷ cs) = if ends_head (c ∷ cs) then close_field ++ (c ∷ cs) else c ∷ closing cs
-
--- the reply as it is written, where the connection goes on behind it or ends
-abbrev pub sent_as : Bool → List ℕ → List ℕ
-sent_as true reply = reply
-sent_as false reply = closing reply
+-- the reply is made and is one that this server gives, or there was no memory for it
+abbrev pub Makes : Reply → Result Reply NoRoom → Type 0
+Makes want (Ok r) = (r ≡ want) × IsReply r
+Makes want (Err e) = Unit {0}

@@ -14,9 +14,11 @@ use Rattle.mt_front.specs.declared.connection.End.TheVariants.{Input as AtEnd, C
 use Rattle.mt_front.specs.declared.connection.Served.{Served}
 use Rattle.mt_front.specs.declared.connection.ConnFault.{ConnFault}
 use Rattle.mt_front.specs.declared.connection.ConnFault.TheVariants.{ReadFault, WriteFault, NoMemory}
-use Rattle.mt_front.specs.Refusals.{head_refusal, bad_reply, closing}
+use Rattle.mt_http_out.specs.Rendering.{bytes_of}
+use Rattle.mt_world.specs.WholeCalls.{Mark}
+use Rattle.mt_front.specs.Refusals.{head_refusal, bad_reply, memory_reply}
 use Rattle.mt_front.specs.Items.{Item, AllKeep, LastCloses}
-use Rattle.mt_front.specs.Answers.{Past, Counts, FitsConnection, AreCaused, past_end}
+use Rattle.mt_front.specs.Answers.{Past, Counts, FitsConnection, AreCausedTo, past_end}
 use Rattle.mt_front.specs.Spells.{SpellsAll}
 
 -- ---- what is written
@@ -55,19 +57,20 @@ pub record ToldBefore (w w' : WorldState) : Type 0 where
   pub old_told : is_some w'.old_store.told ≡ true → is_some w.old_store.told ≡ true
   pub new_told : is_some w'.new_store.told ≡ true → is_some w.new_store.told ≡ true
 
--- the items fit the world's history, no other entry was added to it, and each reply that a store failed has its own cause
-pub record Talk (c : ℕ) (w : WorldState) (items : List Item) (w' : WorldState) : Type 0 where
-  pub answered : FitsConnection c (Tells w') (past_of w') (past_end (past_of w)) items []
+-- the items fit the world's history, and then what an item left that broke off with these marks; no other entry was added to it, and each reply that a store failed has its own cause
+pub record Talk (c : ℕ) (w : WorldState) (items : List Item) (broken : List Mark) (w' : WorldState) : Type 0 where
+  pub answered : FitsConnection c (Tells w') (past_of w') (past_end (past_of w)) items broken
   pub same : IsSameWorld w w'
   pub told : ToldBefore w w'
   pub added : Added c w w'
-  pub caused : AreCaused (counts_of w) items (counts_of w')
+  pub caused : AreCausedTo (counts_of w) items broken (counts_of w')
 
 -- ---- how a session ends
 
--- the items that were answered, the bytes of their requests, the bytes that are owed for them, and what is left of the input behind their requests
+-- the items that were answered, the marks of one that broke off behind them, if any, the bytes of their requests, the bytes that are owed for them, and what is left of the input behind their requests
 pub record Course : Type 0 where
   pub items : List Item
+  pub broken : List Mark
   pub read : List ℕ
   pub written : List ℕ
   pub left : Option (List ℕ)
@@ -93,7 +96,7 @@ pub record IsRefused (s : Input) (c : Course) (t : Input) (owed : List ℕ) : Ty
   pub closes : Closes code
   pub refuses : IfSome c.left (λ all. Refuses all code said)
   pub keep : AllKeep c.items
-  pub owed_is : owed ≡ c.written ++ (said ++ closing (bad_reply (head_refusal code)))
+  pub owed_is : owed ≡ c.written ++ (said ++ bytes_of (bad_reply (head_refusal code) true))
   pub reads : Ended s t
 
 -- a read failed: these bytes had been read behind the requests, no whole one stands in them, and the 100 Continue of the one begun was written where its head stands whole and calls for it
@@ -133,16 +136,27 @@ pub record CutContinue (s : Input) (o : Output) (c : Course) (t : Input) (x : Ou
 abbrev pub AtWriteFault : Input → Output → Course → Input → Output → Type 0
 AtWriteFault s o c t x = CutReply s o c t x ⊎ CutContinue s o c t x ⊎ ((owed : List ℕ) × IsRefused s c t owed × Cut o owed x)
 
--- nothing, or the 100 Continue of the request whose head stands whole at the front
+-- nothing, or the 100 Continue of the request whose head stands whole at the front, or that of one that is refused
 abbrev pub IsSaid : Option (List ℕ) → List ℕ → Type 0
-IsSaid left said = (said ≡ []) ⊎ ((head : RequestHead) × IsNext left head said)
+IsSaid left said = (said ≡ []) ⊎ ((head : RequestHead) × IsNext left head said) ⊎ ((code : Code) × Closes code × IfSome left (λ all. Refuses all code said))
 
--- there was no memory for the next request, whose 100 Continue may have been written
+-- there was no memory for the next request, whose 100 Continue may have been written, and then the reply that says so, or a first part of it where a write failed
 pub record AtNoMemory (o : Output) (c : Course) (x : Output) : Type 0 where
   pub said : List ℕ
   pub spoken : IsSaid c.left said
   pub keep : AllKeep c.items
-  pub sent : Sent o (c.written ++ said) x
+  pub told : List ℕ
+  pub rest : List ℕ
+  pub reply_is : bytes_of memory_reply ≡ told ++ rest
+  pub sent : Sent o (c.written ++ (said ++ told)) x
+  pub cause : (rest ≡ []) ⊎ Rose o.faults x.faults
+
+-- an item broke off only for want of memory
+abbrev pub MayBreak : Result Served ConnFault → List Mark → Type 0
+MayBreak (Ok served) broken = broken ≡ []
+MayBreak (Err ReadFault) broken = broken ≡ []
+MayBreak (Err WriteFault) broken = broken ≡ []
+MayBreak (Err NoMemory) broken = Unit {0}
 
 -- a session that was served to its end, by how it ended; each reply counts
 abbrev pub EndsAs : Input → Output → Course → ℕ → End → Input → Output → Type 0
@@ -168,7 +182,8 @@ pub record IsCourse (table : List ℕ) (s : Input) (c : Course) : Type 0 where
 pub record Serves (c : ℕ) (table : List ℕ) (w : WorldState) (s : Input) (o : Output) (r : Result Served ConnFault) (w' : WorldState) (t : Input) (x : Output) : Type 0 where
   pub course : Course
   pub is_course : IsCourse table s course
-  pub talk : Talk c w course.items w'
+  pub talk : Talk c w course.items course.broken w'
+  pub breaks : MayBreak r course.broken
   pub ends : SessionAs s o course r t x
   pub faults : s.faults ≤ t.faults
   pub faults_out : o.faults ≤ x.faults

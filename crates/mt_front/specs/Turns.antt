@@ -27,13 +27,15 @@ use Rattle.mt_front.specs.declared.connection.Outcome.{Outcome}
 use Rattle.mt_front.specs.declared.connection.Outcome.TheVariants as outcome
 use Rattle.mt_front.specs.declared.connection.Turn.{Turn}
 use Rattle.mt_front.specs.declared.connection.Turn.TheVariants.{Answered, Ended}
-use Rattle.mt_front.specs.Refusals.{head_refusal, bad_reply, closing, sent_as}
+use Rattle.mt_http_out.specs.declared.reply.Reply.{Reply}
+use Rattle.mt_http_out.specs.Rendering.{bytes_of}
+use Rattle.mt_front.specs.Refusals.{head_refusal, bad_reply}
 use Rattle.mt_front.specs.Asks.{RequestAsks, WholeAsks, request_by, request_of}
 use Rattle.mt_world.specs.Moves.{NewEntry, fault_entry}
 use Rattle.mt_world.specs.WholeCalls.{Mark}
-use Rattle.mt_front.specs.Items.{ItemOutcome, Done, Refused, Fault, Full, Item, IsRendered, entries_of, applied_entry, refused_entry}
-use Rattle.mt_front.specs.Answers.{FitsFrom, IsCaused, past_end}
-use Rattle.mt_front.specs.Session.{Sent, Cut, past_of, counts_of, ToldBefore, Added, IsSaid}
+use Rattle.mt_front.specs.Items.{ItemOutcome, Done, Refused, Fault, Full, Item, IsRendered, AllKeep, entries_of, applied_entry, refused_entry}
+use Rattle.mt_front.specs.Answers.{FitsFrom, BreaksOff, IsCaused, AtMost, past_end}
+use Rattle.mt_front.specs.Session.{Sent, Cut, past_of, counts_of, ToldBefore, Added, IsSaid, Course, IsCourse, Talk, MayBreak, SessionAs}
 
 -- ---- over the world
 
@@ -44,6 +46,15 @@ pub record LeavesNothing (w w' : WorldState) : Type 0 where
   pub told : ToldBefore w w'
   pub entries : w'.history.entries ≡ w.history.entries
   pub still : counts_of w' ≡ counts_of w
+
+-- an item broke off for want of memory in turns of caller c, with these marks
+pub record BrokeOff (c : ℕ) (w : WorldState) (broken : List Mark) (w' : WorldState) : Type 0 where
+  pub same : IsSameWorld w w'
+  pub told : ToldBefore w w'
+  pub breaks : BreaksOff c (Tells w') (past_of w') (past_end (past_of w)) broken
+  pub added : Added c w w'
+  pub later : AtMost (counts_of w) (counts_of w')
+  pub still : broken ≡ [] → counts_of w' ≡ counts_of w
 
 -- an item came out so in turns of caller c, each over the history that it found, which is the first part of what the history is afterwards
 pub record CameOut (c : ℕ) (w : WorldState) (i : Item) (w' : WorldState) : Type 0 where
@@ -94,6 +105,22 @@ pub record WritesReply (o : Output) (bytes : List ℕ) (r : Result (Unit {0}) Co
   pub faults : o.faults ≤ x.faults
   pub replied : RepliedAs o bytes r x
 
+-- so for a reply that takes memory; where there is none nothing was written
+abbrev pub SaidAs : Output → List ℕ → Result (Unit {0}) ConnFault → Output → Type 0
+SaidAs o bytes (Ok u) x = Sent o bytes x
+SaidAs o bytes (Err ReadFault) x = ⊥
+SaidAs o bytes (Err WriteFault) x = Cut o bytes x
+SaidAs o bytes (Err NoMemory) x = x ≡ o
+
+pub record SaysReply (o : Output) (bytes : List ℕ) (r : Result (Unit {0}) ConnFault) (x : Output) : Type 0 where
+  pub faults : o.faults ≤ x.faults
+  pub said : SaidAs o bytes r x
+
+-- so for one that may have been made
+abbrev pub SaysMade : Output → Result Reply NoRoom → Result (Unit {0}) ConnFault → Output → Type 0
+SaysMade o (Ok made) r x = SaysReply o (bytes_of made) r x
+SaysMade o (Err none) r x = (r ≡ Err NoMemory) × (x ≡ o)
+
 -- what is asked was answered, with no other caller between, and with this result of writing the reply, behind which the connection goes on or ends
 pub record Answering (c : ℕ) (w : WorldState) (o : Output) (asks : Asked) (keep : Bool) (r : Result (Unit {0}) ConnFault) (w' : WorldState) (x : Output) : Type 0 where
   pub item : Item
@@ -103,13 +130,13 @@ pub record Answering (c : ℕ) (w : WorldState) (o : Output) (asks : Asked) (kee
   pub caused : IsCaused (counts_of w) item (counts_of w')
   pub added : Added c w w'
   pub rendered : IsRendered item
-  pub replied : RepliedAs o (sent_as keep item.reply) r x
+  pub replied : RepliedAs o item.reply r x
 
 abbrev pub AnswersAs : ℕ → WorldState → Output → Asked → Bool → Result (Unit {0}) ConnFault → WorldState → Output → Type 0
 AnswersAs c w o asks keep (Ok u) w' x = Answering c w o asks keep (Ok u) w' x
 AnswersAs c w o asks keep (Err ReadFault) w' x = ⊥
 AnswersAs c w o asks keep (Err WriteFault) w' x = Answering c w o asks keep (Err WriteFault) w' x
-AnswersAs c w o asks keep (Err NoMemory) w' x = LeavesNothing w w' × (x ≡ o)
+AnswersAs c w o asks keep (Err NoMemory) w' x = (broken : List Mark) × BrokeOff c w broken w' × (x ≡ o)
 
 -- the answer to what is asked
 pub record AnswersOne (c : ℕ) (w : WorldState) (o : Output) (asks : Asked) (keep : Bool) (r : Result (Unit {0}) ConnFault) (w' : WorldState) (x : Output) : Type 0 where
@@ -133,7 +160,7 @@ abbrev pub AnswersWholeAs : ℕ → List ℕ → WorldState → Output → Incom
 AnswersWholeAs c table w o v (Ok turn) w' x = (turn ≡ turn_behind v.keep) × AnswersWhole c table w o v (Ok tt) w' x
 AnswersWholeAs c table w o v (Err ReadFault) w' x = ⊥
 AnswersWholeAs c table w o v (Err WriteFault) w' x = AnswersWhole c table w o v (Err WriteFault) w' x
-AnswersWholeAs c table w o v (Err NoMemory) w' x = LeavesNothing w w' × (x ≡ o)
+AnswersWholeAs c table w o v (Err NoMemory) w' x = (broken : List Mark) × BrokeOff c w broken w' × (x ≡ o)
 
 -- the answer to a request
 pub record AnswersRequest (c : ℕ) (table : List ℕ) (w : WorldState) (o : Output) (v : Incoming) (r : Result Turn ConnFault) (w' : WorldState) (x : Output) : Type 0 where
@@ -150,13 +177,13 @@ turn_refused CompressedBody close = turn_behind (not close)
 
 -- the reply to what is refused by that code
 abbrev pub refusal_bytes : Code → Bool → List ℕ
-refusal_bytes code close = sent_as (not close) (bad_reply (head_refusal code))
+refusal_bytes code close = bytes_of (bad_reply (head_refusal code) close)
 
 abbrev pub RefusesAs : Output → Code → Bool → Result Turn ConnFault → Output → Type 0
 RefusesAs o code close (Ok turn) x = (turn ≡ turn_refused code close) × Sent o (refusal_bytes code close) x
 RefusesAs o code close (Err ReadFault) x = ⊥
 RefusesAs o code close (Err WriteFault) x = Cut o (refusal_bytes code close) x
-RefusesAs o code close (Err NoMemory) x = ⊥
+RefusesAs o code close (Err NoMemory) x = x ≡ o
 
 abbrev pub FaultedAs : Output → InFault → Result Turn ConnFault → Output → Type 0
 FaultedAs o fault.ReadFault r x = (r ≡ Err ReadFault) × (x ≡ o)
@@ -195,7 +222,7 @@ pub record IsRefusal (kept : List ℕ) (s : Input) (owed : List ℕ) (t : Input)
   pub said : List ℕ
   pub closes : Closes code
   pub refuses : IfSome (ahead kept s) (λ all. Refuses all code said)
-  pub owed_is : owed ≡ said ++ closing (bad_reply (head_refusal code))
+  pub owed_is : owed ≡ said ++ bytes_of (bad_reply (head_refusal code) true)
   pub ended : EndsReads s t
 
 -- there was no memory, and nothing was written but a 100 Continue
@@ -213,9 +240,33 @@ TurnAs c table kept s o w (Ok (Ended BadInput)) kept' t x w' = (owed : List ℕ)
 TurnAs c table kept s o w (Err ReadFault) kept' t x w' = BrokeIn kept s o t x × (w' ≡ w)
 TurnAs c table kept s o w (Err WriteFault) kept' t x w' =
     ((keep : Bool) × OneMore c table kept s o w keep (Err WriteFault) kept' t x w') ⊎ (BrokeOut kept s o kept' t x × (w' ≡ w)) ⊎ ((owed : List ℕ) × IsRefusal kept s owed t × Cut o owed x × (w' ≡ w))
-TurnAs c table kept s o w (Err NoMemory) kept' t x w' = LeavesNothing w w' × StarvedAt (ahead kept s) o x
+TurnAs c table kept s o w (Err NoMemory) kept' t x w' = (broken : List Mark) × BrokeOff c w broken w' × StarvedAt (ahead kept s) o x
 
 pub record SessionTurn (c : ℕ) (table kept : List ℕ) (s : Input) (o : Output) (w : WorldState) (r : Result Turn ConnFault) (kept' : List ℕ) (t : Input) (x : Output) (w' : WorldState) : Type 0 where
   pub later : Later s t
   pub faults_out : o.faults ≤ x.faults
   pub turn : TurnAs c table kept s o w r kept' t x w'
+
+-- ---- a session before want of memory is told
+
+-- there was no memory for the next request, whose 100 Continue may have been written
+pub record AtWant (o : Output) (c : Course) (x : Output) : Type 0 where
+  pub said : List ℕ
+  pub spoken : IsSaid c.left said
+  pub keep : AllKeep c.items
+  pub sent : Sent o (c.written ++ said) x
+
+abbrev pub ConversesAs : Input → Output → Course → Result Served ConnFault → Input → Output → Type 0
+ConversesAs s o c (Ok served) t x = SessionAs s o c (Ok served) t x
+ConversesAs s o c (Err ReadFault) t x = SessionAs s o c (Err ReadFault) t x
+ConversesAs s o c (Err WriteFault) t x = SessionAs s o c (Err WriteFault) t x
+ConversesAs s o c (Err NoMemory) t x = AtWant o c x
+
+pub record Converses (c : ℕ) (table : List ℕ) (w : WorldState) (s : Input) (o : Output) (r : Result Served ConnFault) (w' : WorldState) (t : Input) (x : Output) : Type 0 where
+  pub course : Course
+  pub is_course : IsCourse table s course
+  pub talk : Talk c w course.items course.broken w'
+  pub breaks : MayBreak r course.broken
+  pub ends : ConversesAs s o course r t x
+  pub faults : s.faults ≤ t.faults
+  pub faults_out : o.faults ≤ x.faults

@@ -18,15 +18,15 @@ use crate::refusals::{BadRequest, body_refusal, key_refusal};
 use crate::routes::{Action, IfMatch, Route, prefers_no_content, read_match, read_route};
 use mt_chain::{Cond, Op};
 use mt_http_in::{Field, Incoming};
-use mt_json::{Body, KeyUse, read_entity};
+use mt_json::{Body, KeyUse, Level, read_entity};
 use mt_model::{Key, NoMemory, Props, Text};
 use std::alloc::Global;
 
 /// What the reply to a written row shows of it.
 #[derive(Clone, Copy, Debug, PartialEq, Eq)]
 pub enum Echo {
-    /// The entity: 201.
-    Entity,
+    /// The entity at that level: 201.
+    Entity(Level),
 
     /// Its tag, and that no content was wanted: 204.
     NoContent,
@@ -62,7 +62,7 @@ fn insert_echo(no_content: bool) -> Echo
     if no_content {
         Echo::NoContent
     } else {
-        Echo::Entity
+        Echo::Entity(Level::Minimal)
     }
 }
 

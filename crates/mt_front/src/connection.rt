@@ -1,21 +1,24 @@
 //! One connection.
-ghost use Rattle.std.specs.Prelude.{◌≡◌, ◌≤◌, ◌<◌, ◌+◌, ◌^◌, ◌∷◌, [], length};
+ghost use Rattle.std.specs.Prelude.{◌≡◌, ◌≤◌, ◌<◌, ◌+◌, ◌^◌, ◌∷◌, [], length, IfOk};
 ghost use Rattle.mt_model.specs.Props.{visible_size};
 ghost use Rattle.mt_chain.specs.Effect.{op_props};
 ghost use Rattle.mt_rules.specs.Batches.{MayAsk};
 ghost use Rattle.mt_front.specs.declared.asks.Asked.TheVariants as asked;
 ghost use Rattle.mt_front.specs.Asks.{CanTry};
 ghost use Rattle.mt_front.specs.Session.{Serves};
-ghost use Rattle.mt_front.specs.Refusals.{sent_as};
-ghost use Rattle.mt_front.specs.Turns.{Tries, WritesReply, AnswersOne, AnswersRequest, AnswersFault, RefusesAs, turn_behind, turn_refused, served_of, SessionTurn};
+ghost use Rattle.mt_http_out.specs.Rendering.{bytes_of, IsReply};
+ghost use Rattle.mt_front.specs.Refusals.{bad_reply};
+ghost use Rattle.mt_front.specs.Turns.{Tries, WritesReply, SaysReply, SaysMade, Converses, AnswersOne, AnswersRequest, AnswersFault, RefusesAs, turn_behind, turn_refused, served_of, SessionTurn};
 
 use crate::asks::{Asked, Echo, asked_by};
 use crate::batch::batch_of;
-use crate::closing::send_closing;
-use crate::refusals::{bad_request, cause_reply, head_refusal, history_full, store_fault};
+use crate::refusals::{
+    BadRequest, bad_request, cause_reply, head_refusal, history_full, no_memory, store_fault,
+};
 use crate::reply::{done, prepare};
 use mt_chain::{Keeper, Op, Refusal, Tags};
 use mt_http_in::{Code, InFault, Incoming, Reader, read_request};
+use mt_http_out::{Reply, render};
 use mt_io::{IoFault, Sink, Source, send};
 use mt_model::{NoMemory, Tag, Text};
 use mt_world::{Answer, Request, TurnFault, World};
@@ -84,19 +87,47 @@ enum Turn {
 /// The number of the one caller of a world's session.
 const CALLER: u32 = 0;
 
-/// Writes a reply, with `Connection: close` as its last field where the connection ends.
-fn reply<T: Sink>(sink: &mut T, bytes: &[u8], keep: bool) -> Result<(), ConnFault>
-    ensures { WritesReply (T.output sink.old) (sent_as keep bytes.now) result (T.output sink.new) }
+/// Writes the bytes of a reply. It takes no memory.
+fn send_bytes<T: Sink>(sink: &mut T, bytes: &[u8]) -> Result<(), ConnFault>
+    ensures { WritesReply (T.output sink.old) bytes.now result (T.output sink.new) }
 {
-    let sent = if keep {
-        send(sink, bytes)
-    } else {
-        send_closing(sink, bytes)
-    };
-    match sent {
+    match send(sink, bytes) {
         Ok(()) => Ok(()),
         Err(IoFault::Failed) => Err(ConnFault::WriteFault),
     }
+}
+
+/// Renders a reply that may have been made into the buffer, in place of what stands there, and writes
+/// it at once. Where there is no memory nothing is written.
+fn send_reply<T: Sink>(
+    out: &mut Vec<u8>,
+    sink: &mut T,
+    reply: Result<Reply, NoMemory>,
+) -> Result<(), ConnFault>
+    requires { IfOk reply IsReply }
+    ensures { SaysMade (T.output sink.old) reply result (T.output sink.new) }
+{
+    let Ok(reply) = reply else {
+        return Err(ConnFault::NoMemory);
+    };
+    out.clear();
+    match render(&reply, out) {
+        Ok(()) => send_bytes(sink, out.as_slice()),
+        Err(NoMemory) => Err(ConnFault::NoMemory),
+    }
+}
+
+/// Refuses what is asked for before anything is tried.
+fn send_refusal<T: Sink>(
+    alloc: Global,
+    out: &mut Vec<u8>,
+    sink: &mut T,
+    refusal: BadRequest,
+    close: bool,
+) -> Result<(), ConnFault>
+    ensures { SaysReply (T.output sink.old) (bytes_of (bad_reply refusal close)) result (T.output sink.new) }
+{
+    send_reply(out, sink, bad_request(alloc, refusal, close))
 }
 
 /// The tag of the one operation of a batch.
@@ -126,11 +157,12 @@ fn try_op<K: Keeper>(alloc: Global, world: &mut World<K>, op: Op) -> Result<Outc
     }
 }
 
-/// Tries an operation and writes its reply: all memory for the reply is taken before the operation is
-/// tried.
+/// Tries an operation and writes its reply. All memory for the reply to one that is done is taken
+/// before it is tried; there may be none for another reply.
 fn write_row<K: Keeper, T: Sink>(
     alloc: Global,
     world: &mut World<K>,
+    out: &mut Vec<u8>,
     sink: &mut T,
     op: Op,
     echo: Echo,
@@ -139,14 +171,17 @@ fn write_row<K: Keeper, T: Sink>(
     requires { CanTry (asked.Write op echo) }
     ensures { AnswersOne 0 world.old (T.output sink.old) (asked.Write op echo) keep result world.new (T.output sink.new) }
 {
-    let Ok(prepared) = prepare(alloc, &op, echo) else {
+    let close = !keep;
+    let Ok(prepared) = prepare(alloc, &op, echo, close) else {
         return Err(ConnFault::NoMemory);
     };
     match try_op(alloc, world, op) {
-        Ok(Outcome::Done(tag)) => reply(sink, &done(prepared, tag), keep),
-        Ok(Outcome::Refused(refusal)) => reply(sink, cause_reply(refusal.cause).as_bytes(), keep),
-        Ok(Outcome::Fault) => reply(sink, store_fault().as_bytes(), keep),
-        Ok(Outcome::Full) => reply(sink, history_full().as_bytes(), keep),
+        Ok(Outcome::Done(tag)) => send_bytes(sink, &done(prepared, tag)),
+        Ok(Outcome::Refused(refusal)) => {
+            send_reply(out, sink, cause_reply(alloc, refusal.cause, close))
+        }
+        Ok(Outcome::Fault) => send_reply(out, sink, store_fault(alloc, close)),
+        Ok(Outcome::Full) => send_reply(out, sink, history_full(alloc, close)),
         Err(NoMemory) => Err(ConnFault::NoMemory),
     }
 }
@@ -155,6 +190,7 @@ fn write_row<K: Keeper, T: Sink>(
 fn answer<K: Keeper, T: Sink>(
     alloc: Global,
     world: &mut World<K>,
+    out: &mut Vec<u8>,
     sink: &mut T,
     asks: Asked,
     keep: bool,
@@ -163,8 +199,8 @@ fn answer<K: Keeper, T: Sink>(
     ensures { AnswersOne 0 world.old (T.output sink.old) asks keep result world.new (T.output sink.new) }
 {
     match asks {
-        Asked::Write { op, echo } => write_row(alloc, world, sink, op, echo, keep),
-        Asked::Refused(refusal) => reply(sink, bad_request(refusal).as_bytes(), keep),
+        Asked::Write { op, echo } => write_row(alloc, world, out, sink, op, echo, keep),
+        Asked::Refused(refusal) => send_refusal(alloc, out, sink, refusal, !keep),
     }
 }
 
@@ -184,6 +220,7 @@ fn answer_request<K: Keeper, T: Sink>(
     alloc: Global,
     world: &mut World<K>,
     table: &Text,
+    out: &mut Vec<u8>,
     sink: &mut T,
     request: Incoming,
 ) -> Result<Turn, ConnFault>
@@ -193,7 +230,7 @@ fn answer_request<K: Keeper, T: Sink>(
     let Ok(asks) = asked_by(alloc, table, request) else {
         return Err(ConnFault::NoMemory);
     };
-    match answer(alloc, world, sink, asks, keep) {
+    match answer(alloc, world, out, sink, asks, keep) {
         Ok(()) => Ok(turn_behind(keep)),
         Err(fault) => Err(fault),
     }
@@ -211,25 +248,36 @@ fn turn_refused(code: Code, close: bool) -> Turn
 }
 
 /// Refuses what was read.
-fn refuse<T: Sink>(sink: &mut T, code: Code, close: bool) -> Result<Turn, ConnFault>
+fn refuse<T: Sink>(
+    alloc: Global,
+    out: &mut Vec<u8>,
+    sink: &mut T,
+    code: Code,
+    close: bool,
+) -> Result<Turn, ConnFault>
     ensures faults { (T.output sink.old).faults ≤ (T.output sink.new).faults }
     ensures answers { RefusesAs (T.output sink.old) code close result (T.output sink.new) }
 {
-    match reply(sink, bad_request(head_refusal(code)).as_bytes(), !close) {
+    match send_refusal(alloc, out, sink, head_refusal(code), close) {
         Ok(()) => Ok(turn_refused(code, close)),
         Err(fault) => Err(fault),
     }
 }
 
 /// Answers where no request was read.
-fn answer_fault<T: Sink>(sink: &mut T, fault: InFault) -> Result<Turn, ConnFault>
+fn answer_fault<T: Sink>(
+    alloc: Global,
+    out: &mut Vec<u8>,
+    sink: &mut T,
+    fault: InFault,
+) -> Result<Turn, ConnFault>
     ensures { AnswersFault (T.output sink.old) fault result (T.output sink.new) }
 {
     match fault {
         InFault::ReadFault => Err(ConnFault::ReadFault),
         InFault::WriteFault => Err(ConnFault::WriteFault),
         InFault::NoMemory => Err(ConnFault::NoMemory),
-        InFault::Refused { code, close, .. } => refuse(sink, code, close),
+        InFault::Refused { code, close, .. } => refuse(alloc, out, sink, code, close),
     }
 }
 
@@ -240,15 +288,16 @@ fn take_turn<K: Keeper, S: Source, T: Sink>(
     table: &Text,
     reader: &mut Reader,
     source: &mut S,
+    out: &mut Vec<u8>,
     sink: &mut T,
 ) -> Result<Turn, ConnFault>
     ensures { SessionTurn 0 table.now reader.old (S.input source.old) (T.output sink.old) world.old result
         reader.new (S.input source.new) (T.output sink.new) world.new }
 {
     match read_request(alloc, reader, source, sink) {
-        Ok(Some(request)) => answer_request(alloc, world, table, sink, request),
+        Ok(Some(request)) => answer_request(alloc, world, table, out, sink, request),
         Ok(None) => Ok(Turn::Ended(End::Input)),
-        Err(fault) => answer_fault(sink, fault),
+        Err(fault) => answer_fault(alloc, out, sink, fault),
     }
 }
 
@@ -264,6 +313,30 @@ fn served_of(answered: u64, end: End) -> Served
     Served { requests, end }
 }
 
+/// Serves a connection, but for the reply that tells want of memory.
+fn converse<K: Keeper, S: Source, T: Sink>(
+    alloc: Global,
+    world: &mut World<K>,
+    table: &Text,
+    source: &mut S,
+    sink: &mut T,
+) -> Result<Served, ConnFault>
+    ensures { Converses 0 table.now world.old (S.input source.old) (T.output sink.old) result world.new (S.input source.new) (T.output sink.new) }
+{
+    let Ok(mut reader) = Reader::new(alloc) else {
+        return Err(ConnFault::NoMemory);
+    };
+    let mut out = Vec::new(alloc);
+    'requests: for requests in 0..u64::MAX {
+        match take_turn(alloc, world, table, &mut reader, source, &mut out, sink) {
+            Ok(Turn::Answered) => {}
+            Ok(Turn::Ended(end)) => return Ok(served_of(requests, end)),
+            Err(fault) => return Err(fault),
+        }
+    }
+    Err(ConnFault::NoMemory)
+}
+
 /// Serves a connection on a table as the world's caller 0: to the end of its input, to a request of
 /// HTTP/1.0 or with `Connection: close`, to what is no whole request within the limits, or to the
 /// first fault of reading, of writing or of memory. It reads as `mt_http_in::read_request` does.
@@ -271,8 +344,10 @@ fn served_of(answered: u64, end: End) -> Served
 /// Each whole request is answered from the world: refused before anything is tried, done, refused by
 /// the table, or answered with 500 where a store failed and with 507 where the history is full. What
 /// is no whole request is refused, and the connection ends. The last reply before a connection ends
-/// has `Connection: close` as its last field. All memory for a reply is taken before the store calls,
-/// so that a write that was done is answered.
+/// has `Connection: close` as its last field. Each reply is written at once. All memory for the reply
+/// to a write that is done is taken before its first store call, so that it is answered. Where there
+/// is no memory for something else, 503 is tried, and the session ends; what was asked last has left
+/// no entry of a batch then.
 ///
 /// No read begins once a whole request stands in what was read, and none after the source said its
 /// end. At most 2^64 - 1 replies are written; the end of this count is told as want of memory.
@@ -285,15 +360,13 @@ pub fn session<K: Keeper, S: Source, T: Sink>(
 ) -> Result<Served, ConnFault>
     ensures { Serves 0 table.now world.old (S.input source.old) (T.output sink.old) result world.new (S.input source.new) (T.output sink.new) }
 {
-    let Ok(mut reader) = Reader::new(alloc) else {
-        return Err(ConnFault::NoMemory);
-    };
-    'requests: for requests in 0..u64::MAX {
-        match take_turn(alloc, world, table, &mut reader, source, sink) {
-            Ok(Turn::Answered) => {}
-            Ok(Turn::Ended(end)) => return Ok(served_of(requests, end)),
-            Err(fault) => return Err(fault),
+    match converse(alloc, world, table, source, sink) {
+        Ok(served) => Ok(served),
+        Err(ConnFault::ReadFault) => Err(ConnFault::ReadFault),
+        Err(ConnFault::WriteFault) => Err(ConnFault::WriteFault),
+        Err(ConnFault::NoMemory) => {
+            let _ = send(sink, no_memory());
+            Err(ConnFault::NoMemory)
         }
     }
-    Err(ConnFault::NoMemory)
 }

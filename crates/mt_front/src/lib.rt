@@ -3,7 +3,6 @@
 
 mod asks;
 mod batch;
-mod closing;
 mod connection;
 mod refusals;
 mod reply;
@@ -12,5 +11,7 @@ mod routes;
 pub use asks::{Asked, Echo, asked_by};
 pub use batch::batch_of;
 pub use connection::{ConnFault, End, Served, session};
-pub use refusals::{BadRequest, bad_request, cause_reply, head_refusal, history_full, store_fault};
+pub use refusals::{
+    BadRequest, bad_request, cause_reply, head_refusal, history_full, no_memory, store_fault,
+};
 pub use reply::{Prepared, done, prepare};

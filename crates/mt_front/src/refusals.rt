@@ -1,17 +1,17 @@
 //! Why requests are refused, and the replies that say so: responses of HTTP/1.1 (RFC 9112) with an
 //! error object of OData's JSON format.
-ghost use Rattle.std.specs.Prelude.{◌≡◌, false};
+ghost use Rattle.std.specs.Prelude.{◌≡◌, true, false, ◌∷◌, [], IfOk};
 ghost use Rattle.mt_json.specs.declared.read.JsonFault.TheVariants as json;
 ghost use Rattle.mt_json.specs.Body.{is_repeat};
-ghost use Rattle.mt_front.specs.Refusals.{key_refusal, props_refusal, body_refusal, head_refusal, bad_reply, cause_reply, fault_reply, full_reply};
-
-#[cfg(test)]
-mod tests;
+ghost use Rattle.mt_http_out.specs.Rendering.{bytes_of};
+ghost use Rattle.mt_front.specs.Refusals.{key_refusal, props_refusal, body_refusal, head_refusal, bad_status, bad_code, bad_sentence, error_object, json_type, error_reply, is_error_status, bad_reply, cause_reply, fault_reply, full_reply, memory_reply, Makes};
 
 use mt_chain::Cause;
 use mt_http_in::Code;
+use mt_http_out::{Reply, ReplyField, ReplyFields};
 use mt_json::JsonFault;
-use mt_model::{KeyFault, PropsFault};
+use mt_model::{Blob, KeyFault, NoMemory, PropsFault, Text};
+use std::alloc::Global;
 
 /// Why a request is refused before anything is tried, in the order in which the reasons are looked
 /// for; but for an insert the body comes before its keys. The first four end the connection, and all but
@@ -127,76 +127,190 @@ pub fn body_refusal(fault: &JsonFault) -> Option<BadRequest>
     }
 }
 
-/// The reply to a request that is refused before anything is tried: 400, 413 or 501.
-pub fn bad_request(refusal: BadRequest) -> &'static str
-    ensures { result.now ≡ bad_reply refusal }
-{
-    match refusal {
-        BadRequest::InvalidHead =>
-            "HTTP/1.1 400 Bad Request\r\nContent-Type: application/json\r\nContent-Length: 106\r\n\r\n{\"odata.error\":{\"code\":\"InvalidHead\",\"message\":{\"lang\":\"en-US\",\"value\":\"The request head is not valid.\"}}}",
-        BadRequest::InvalidFraming =>
-            "HTTP/1.1 400 Bad Request\r\nContent-Type: application/json\r\nContent-Length: 108\r\n\r\n{\"odata.error\":{\"code\":\"InvalidFraming\",\"message\":{\"lang\":\"en-US\",\"value\":\"The body length is not valid.\"}}}",
-        BadRequest::RequestBodyTooLarge =>
-            "HTTP/1.1 413 Payload Too Large\r\nContent-Type: application/json\r\nContent-Length: 114\r\n\r\n{\"odata.error\":{\"code\":\"RequestBodyTooLarge\",\"message\":{\"lang\":\"en-US\",\"value\":\"The request body is too large.\"}}}",
-        BadRequest::InvalidBody =>
-            "HTTP/1.1 400 Bad Request\r\nContent-Type: application/json\r\nContent-Length: 109\r\n\r\n{\"odata.error\":{\"code\":\"InvalidBody\",\"message\":{\"lang\":\"en-US\",\"value\":\"The request body is not complete.\"}}}",
-        BadRequest::CompressedBody =>
-            "HTTP/1.1 501 Not Implemented\r\nContent-Type: application/json\r\nContent-Length: 115\r\n\r\n{\"odata.error\":{\"code\":\"CompressedBody\",\"message\":{\"lang\":\"en-US\",\"value\":\"Compressed bodies are not supported.\"}}}",
-        BadRequest::NotImplemented =>
-            "HTTP/1.1 501 Not Implemented\r\nContent-Type: application/json\r\nContent-Length: 108\r\n\r\n{\"odata.error\":{\"code\":\"NotImplemented\",\"message\":{\"lang\":\"en-US\",\"value\":\"The request is not supported.\"}}}",
-        BadRequest::MissingIfMatch =>
-            "HTTP/1.1 400 Bad Request\r\nContent-Type: application/json\r\nContent-Length: 100\r\n\r\n{\"odata.error\":{\"code\":\"MissingIfMatch\",\"message\":{\"lang\":\"en-US\",\"value\":\"If-Match is required.\"}}}",
-        BadRequest::BadETag =>
-            "HTTP/1.1 400 Bad Request\r\nContent-Type: application/json\r\nContent-Length: 94\r\n\r\n{\"odata.error\":{\"code\":\"BadETag\",\"message\":{\"lang\":\"en-US\",\"value\":\"The ETag is not valid.\"}}}",
-        BadRequest::KeyTooLong =>
-            "HTTP/1.1 400 Bad Request\r\nContent-Type: application/json\r\nContent-Length: 93\r\n\r\n{\"odata.error\":{\"code\":\"KeyTooLong\",\"message\":{\"lang\":\"en-US\",\"value\":\"A key is too long.\"}}}",
-        BadRequest::KeyCharacter =>
-            "HTTP/1.1 400 Bad Request\r\nContent-Type: application/json\r\nContent-Length: 109\r\n\r\n{\"odata.error\":{\"code\":\"KeyCharacter\",\"message\":{\"lang\":\"en-US\",\"value\":\"A key has a forbidden character.\"}}}",
-        BadRequest::InvalidJson =>
-            "HTTP/1.1 400 Bad Request\r\nContent-Type: application/json\r\nContent-Length: 106\r\n\r\n{\"odata.error\":{\"code\":\"InvalidJson\",\"message\":{\"lang\":\"en-US\",\"value\":\"The body is not a JSON object.\"}}}",
-        BadRequest::MissingKey =>
-            "HTTP/1.1 400 Bad Request\r\nContent-Type: application/json\r\nContent-Length: 92\r\n\r\n{\"odata.error\":{\"code\":\"MissingKey\",\"message\":{\"lang\":\"en-US\",\"value\":\"A key is missing.\"}}}",
-        BadRequest::Double =>
-            "HTTP/1.1 400 Bad Request\r\nContent-Type: application/json\r\nContent-Length: 99\r\n\r\n{\"odata.error\":{\"code\":\"Double\",\"message\":{\"lang\":\"en-US\",\"value\":\"Edm.Double is not supported.\"}}}",
-        BadRequest::BadName =>
-            "HTTP/1.1 400 Bad Request\r\nContent-Type: application/json\r\nContent-Length: 101\r\n\r\n{\"odata.error\":{\"code\":\"BadName\",\"message\":{\"lang\":\"en-US\",\"value\":\"A property name is not valid.\"}}}",
-        BadRequest::BadType =>
-            "HTTP/1.1 400 Bad Request\r\nContent-Type: application/json\r\nContent-Length: 102\r\n\r\n{\"odata.error\":{\"code\":\"BadType\",\"message\":{\"lang\":\"en-US\",\"value\":\"A property value is not valid.\"}}}",
-        BadRequest::TooManyProperties =>
-            "HTTP/1.1 400 Bad Request\r\nContent-Type: application/json\r\nContent-Length: 117\r\n\r\n{\"odata.error\":{\"code\":\"TooManyProperties\",\"message\":{\"lang\":\"en-US\",\"value\":\"The entity has too many properties.\"}}}",
-        BadRequest::PropertyTooLarge =>
-            "HTTP/1.1 400 Bad Request\r\nContent-Type: application/json\r\nContent-Length: 111\r\n\r\n{\"odata.error\":{\"code\":\"PropertyTooLarge\",\"message\":{\"lang\":\"en-US\",\"value\":\"A property value is too large.\"}}}",
-        BadRequest::EntityTooLarge =>
-            "HTTP/1.1 400 Bad Request\r\nContent-Type: application/json\r\nContent-Length: 103\r\n\r\n{\"odata.error\":{\"code\":\"EntityTooLarge\",\"message\":{\"lang\":\"en-US\",\"value\":\"The entity is too large.\"}}}",
+impl BadRequest {
+    /// The status code of the reply.
+    fn status(self) -> u16
+        ensures { result ≡ bad_status self }
+    {
+        match self {
+            BadRequest::RequestBodyTooLarge => 413,
+            BadRequest::CompressedBody | BadRequest::NotImplemented => 501,
+            BadRequest::InvalidHead
+            | BadRequest::InvalidFraming
+            | BadRequest::InvalidBody
+            | BadRequest::MissingIfMatch
+            | BadRequest::BadETag
+            | BadRequest::KeyTooLong
+            | BadRequest::KeyCharacter
+            | BadRequest::InvalidJson
+            | BadRequest::MissingKey
+            | BadRequest::Double
+            | BadRequest::BadName
+            | BadRequest::BadType
+            | BadRequest::TooManyProperties
+            | BadRequest::PropertyTooLarge
+            | BadRequest::EntityTooLarge => 400,
+        }
+    }
+
+    /// The code of the error object.
+    fn code(self) -> &'static str
+        ensures { result.now ≡ bad_code self }
+    {
+        match self {
+            BadRequest::InvalidHead => "InvalidHead",
+            BadRequest::InvalidFraming => "InvalidFraming",
+            BadRequest::RequestBodyTooLarge => "RequestBodyTooLarge",
+            BadRequest::InvalidBody => "InvalidBody",
+            BadRequest::CompressedBody => "CompressedBody",
+            BadRequest::NotImplemented => "NotImplemented",
+            BadRequest::MissingIfMatch => "MissingIfMatch",
+            BadRequest::BadETag => "BadETag",
+            BadRequest::KeyTooLong => "KeyTooLong",
+            BadRequest::KeyCharacter => "KeyCharacter",
+            BadRequest::InvalidJson => "InvalidJson",
+            BadRequest::MissingKey => "MissingKey",
+            BadRequest::Double => "Double",
+            BadRequest::BadName => "BadName",
+            BadRequest::BadType => "BadType",
+            BadRequest::TooManyProperties => "TooManyProperties",
+            BadRequest::PropertyTooLarge => "PropertyTooLarge",
+            BadRequest::EntityTooLarge => "EntityTooLarge",
+        }
+    }
+
+    /// The sentence of the error object.
+    fn sentence(self) -> &'static str
+        ensures { result.now ≡ bad_sentence self }
+    {
+        match self {
+            BadRequest::InvalidHead => "The request head is not valid.",
+            BadRequest::InvalidFraming => "The body length is not valid.",
+            BadRequest::RequestBodyTooLarge => "The request body is too large.",
+            BadRequest::InvalidBody => "The request body is not complete.",
+            BadRequest::CompressedBody => "Compressed bodies are not supported.",
+            BadRequest::NotImplemented => "The request is not supported.",
+            BadRequest::MissingIfMatch => "If-Match is required.",
+            BadRequest::BadETag => "The ETag is not valid.",
+            BadRequest::KeyTooLong => "A key is too long.",
+            BadRequest::KeyCharacter => "A key has a forbidden character.",
+            BadRequest::InvalidJson => "The body is not a JSON object.",
+            BadRequest::MissingKey => "A key is missing.",
+            BadRequest::Double => "Edm.Double is not supported.",
+            BadRequest::BadName => "A property name is not valid.",
+            BadRequest::BadType => "A property value is not valid.",
+            BadRequest::TooManyProperties => "The entity has too many properties.",
+            BadRequest::PropertyTooLarge => "A property value is too large.",
+            BadRequest::EntityTooLarge => "The entity is too large.",
+        }
     }
 }
 
+/// The error object of a code and a sentence.
+fn error_object(alloc: Global, code: &str, sentence: &str) -> Result<Blob, NoMemory>
+    ensures { IfOk result (λ b. b ≡ error_object code.now sentence.now) }
+{
+    let text = format!(in alloc;
+        "{{\"odata.error\":{{\"code\":\"{code}\",\"message\":{{\"lang\":\"en-US\",\"value\":\"{sentence}\"}}}}}}"
+    )?;
+    Blob::of(alloc, text.as_bytes())
+}
+
+/// The fields of a reply whose body is JSON.
+fn json_fields(alloc: Global) -> Result<ReplyFields, NoMemory>
+    ensures { IfOk result (λ f. f ≡ json_type ∷ []) }
+{
+    let mut fields = Vec::with_capacity(alloc, 1)?;
+    fields.push(ReplyField {
+        name: Text::of(alloc, "Content-Type")?,
+        value: Text::of(alloc, "application/json")?,
+    })?;
+    Ok(ReplyFields::of(fields))
+}
+
+/// A reply of that status with that error object.
+fn error_reply(
+    alloc: Global,
+    status: u16,
+    code: &str,
+    sentence: &str,
+    close: bool,
+) -> Result<Reply, NoMemory>
+    requires { is_error_status status ≡ true }
+    ensures { Makes (error_reply status code.now sentence.now close) result }
+{
+    let fields = json_fields(alloc)?;
+    let body = error_object(alloc, code, sentence)?;
+    Ok(Reply {
+        status,
+        fields,
+        body,
+        close,
+    })
+}
+
+/// The reply to a request that is refused before anything is tried: 400, 413 or 501. It ends the
+/// connection or not. The one error is want of memory, here and in the others.
+pub fn bad_request(alloc: Global, refusal: BadRequest, close: bool) -> Result<Reply, NoMemory>
+    ensures { Makes (bad_reply refusal close) result }
+{
+    error_reply(
+        alloc,
+        refusal.status(),
+        refusal.code(),
+        refusal.sentence(),
+        close,
+    )
+}
+
 /// The reply to an operation that the table refuses: 404, 409, 412 or 400.
-pub fn cause_reply(cause: Cause) -> &'static str
-    ensures { result.now ≡ cause_reply cause }
+pub fn cause_reply(alloc: Global, cause: Cause, close: bool) -> Result<Reply, NoMemory>
+    ensures { Makes (cause_reply cause close) result }
 {
     match cause {
-        Cause::NotFound =>
-            "HTTP/1.1 404 Not Found\r\nContent-Type: application/json\r\nContent-Length: 119\r\n\r\n{\"odata.error\":{\"code\":\"ResourceNotFound\",\"message\":{\"lang\":\"en-US\",\"value\":\"The specified resource does not exist.\"}}}",
-        Cause::Exists =>
-            "HTTP/1.1 409 Conflict\r\nContent-Type: application/json\r\nContent-Length: 120\r\n\r\n{\"odata.error\":{\"code\":\"EntityAlreadyExists\",\"message\":{\"lang\":\"en-US\",\"value\":\"The specified entity already exists.\"}}}",
-        Cause::ConditionFailed =>
-            "HTTP/1.1 412 Precondition Failed\r\nContent-Type: application/json\r\nContent-Length: 131\r\n\r\n{\"odata.error\":{\"code\":\"UpdateConditionNotSatisfied\",\"message\":{\"lang\":\"en-US\",\"value\":\"The update condition was not satisfied.\"}}}",
-        Cause::TooManyProperties => bad_request(BadRequest::TooManyProperties),
-        Cause::EntityTooLarge => bad_request(BadRequest::EntityTooLarge),
+        Cause::NotFound => error_reply(
+            alloc,
+            404,
+            "ResourceNotFound",
+            "The specified resource does not exist.",
+            close,
+        ),
+        Cause::Exists => error_reply(
+            alloc,
+            409,
+            "EntityAlreadyExists",
+            "The specified entity already exists.",
+            close,
+        ),
+        Cause::ConditionFailed => error_reply(
+            alloc,
+            412,
+            "UpdateConditionNotSatisfied",
+            "The update condition was not satisfied.",
+            close,
+        ),
+        Cause::TooManyProperties => bad_request(alloc, BadRequest::TooManyProperties, close),
+        Cause::EntityTooLarge => bad_request(alloc, BadRequest::EntityTooLarge, close),
     }
 }
 
 /// The reply where a store failed: 500.
-pub fn store_fault() -> &'static str
-    ensures { result.now ≡ fault_reply }
+pub fn store_fault(alloc: Global, close: bool) -> Result<Reply, NoMemory>
+    ensures { Makes (fault_reply close) result }
 {
-    "HTTP/1.1 500 Internal Server Error\r\nContent-Type: application/json\r\nContent-Length: 90\r\n\r\n{\"odata.error\":{\"code\":\"StoreFault\",\"message\":{\"lang\":\"en-US\",\"value\":\"A store failed.\"}}}"
+    error_reply(alloc, 500, "StoreFault", "A store failed.", close)
 }
 
 /// The reply where the history is full: 507.
-pub fn history_full() -> &'static str
-    ensures { result.now ≡ full_reply }
+pub fn history_full(alloc: Global, close: bool) -> Result<Reply, NoMemory>
+    ensures { Makes (full_reply close) result }
 {
-    "HTTP/1.1 507 Insufficient Storage\r\nContent-Type: application/json\r\nContent-Length: 96\r\n\r\n{\"odata.error\":{\"code\":\"HistoryFull\",\"message\":{\"lang\":\"en-US\",\"value\":\"The history is full.\"}}}"
+    error_reply(alloc, 507, "HistoryFull", "The history is full.", close)
+}
+
+/// The bytes of the reply where there is no memory: 503, and the connection ends.
+pub fn no_memory() -> &'static [u8]
+    ensures { result.now ≡ bytes_of memory_reply }
+{
+    b"HTTP/1.1 503 Service Unavailable\r\nContent-Type: application/json\r\nContent-Length: 91\r\nConnection: close\r\n\r\n{\"odata.error\":{\"code\":\"NoMemory\",\"message\":{\"lang\":\"en-US\",\"value\":\"Not enough memory.\"}}}"
 }

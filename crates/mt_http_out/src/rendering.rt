@@ -16,8 +16,8 @@ const LINE_BYTES: usize = 4;
 /// Connection and the empty line.
 const FRAME_BYTES: usize = 128;
 
-/// Writes the bytes. It takes no memory.
-fn put(room: &mut Vec<u8>, bytes: &[u8])
+/// Writes the bytes behind what stands there. Neither this nor any of the writers below takes memory.
+pub fn put(room: &mut Vec<u8>, bytes: &[u8])
     requires { HasRoom room.old bytes.now }
     ensures { Appends room.old bytes.now room.new }
 {
@@ -37,7 +37,8 @@ fn phrase(status: u16) -> &'static str
     }
 }
 
-fn put_status(room: &mut Vec<u8>, status: u16)
+/// Writes the status line.
+pub fn put_status(room: &mut Vec<u8>, status: u16)
     requires code { IsStatusCode status }
     requires room { HasRoom room.old (status_line status) }
     ensures { Appends room.old (status_line status) room.new }
@@ -51,7 +52,7 @@ fn put_status(room: &mut Vec<u8>, status: u16)
 }
 
 /// Writes the line of a field.
-fn put_line(room: &mut Vec<u8>, name: &str, value: &str)
+pub fn put_line(room: &mut Vec<u8>, name: &str, value: &str)
     requires { HasRoom room.old (line_of name.now value.now) }
     ensures { Appends room.old (line_of name.now value.now) room.new }
 {
@@ -71,7 +72,8 @@ fn put_fields(room: &mut Vec<u8>, fields: &[ReplyField])
     }
 }
 
-fn put_length(room: &mut Vec<u8>, status: u16, size: usize)
+/// Writes Content-Length of a body of that many bytes, but for a 204.
+pub fn put_length(room: &mut Vec<u8>, status: u16, size: usize)
     requires { HasRoom room.old (length_line status size) }
     ensures { Appends room.old (length_line status size) room.new }
 {
@@ -81,7 +83,8 @@ fn put_length(room: &mut Vec<u8>, status: u16, size: usize)
     }
 }
 
-fn put_close(room: &mut Vec<u8>, close: bool)
+/// Writes `Connection: close`, where the connection ends.
+pub fn put_close(room: &mut Vec<u8>, close: bool)
     requires { HasRoom room.old (close_line close) }
     ensures { Appends room.old (close_line close) room.new }
 {

@@ -23,10 +23,11 @@ use Rattle.mt_front.specs.declared.connection.End.{End}
 use Rattle.mt_front.specs.declared.connection.Served.{Served as ServedTo}
 use Rattle.mt_front.specs.declared.connection.ConnFault.{ConnFault}
 use Rattle.mt_front.specs.declared.connection.ConnFault.TheVariants as conn
+use Rattle.mt_world.specs.WholeCalls.{Mark}
 use Rattle.mt_front.specs.Items.{Item, faults_of}
-use Rattle.mt_front.specs.Answers.{FitsFrom, AreCaused, past_end}
-use Rattle.mt_front.specs.Session.{Sent, Cut, Course, past_of, counts_of, SessionAs, EndsAs, Serves}
-use Rattle.mt_front.proofs.CauseLaws.{caused_sum}
+use Rattle.mt_front.specs.Answers.{FitsFrom, AreCausedTo, past_end}
+use Rattle.mt_front.specs.Session.{Sent, Cut, Course, past_of, counts_of, MayBreak, SessionAs, EndsAs, Serves}
+use Rattle.mt_front.proofs.CauseLaws.{caused_to_sum}
 use Rattle.mt_front.proofs.FitLaws.{fits_sooner}
 use Rattle.mt_top.specs.declared.running.Ending.{Ending}
 use Rattle.mt_top.specs.declared.running.Ending.TheVariants.{Served, BadWords, ReadFault, WriteFault, StoreFault, Damaged, BadInput, NoMemory}
@@ -34,7 +35,7 @@ use Rattle.mt_top.specs.Lines.{damage_line}
 use Rattle.mt_words.specs.declared.command.Common.{Common}
 use Rattle.mt_words.specs.declared.command.Command.{Command}
 use Rattle.mt_words.specs.declared.command.Command.TheVariants as command
-use Rattle.mt_top.specs.Run.{Service, service_of, Along, Tellings, Idle, WhereTold, AllTell, IsOpened, IsReplay, AtDamage, Wrote, FaultsRose, During, RunEnds, EndsSession, AskedEnds, depot_tellings}
+use Rattle.mt_top.specs.Run.{Service, service_of, Along, Tellings, Idle, WhereTold, AllTell, IsOpened, IsReplay, BreaksAt, AtDamage, Wrote, FaultsRose, During, RunEnds, EndsSession, AskedEnds, depot_tellings}
 use Rattle.mt_top.specs.Endings.{ending_at, ending_of, Refuses, tellings_of, Over}
 
 -- ---- one store before and after
@@ -98,9 +99,20 @@ by_during v s o c before now (Err conn.ReadFault) t x d = d
 by_during v s o c before now (Err conn.WriteFault) t x d = d
 by_during v s o c before now (Err conn.NoMemory) t x d = inr d
 
+breaks_end : (e : End) (broken : List Mark) → broken ≡ [] → BreaksAt (ending_at e) broken
+breaks_end end.Input broken h = h
+breaks_end end.Closed broken h = h
+breaks_end end.BadInput broken h = h
+
+breaks_as : (r : Result ServedTo ConnFault) (broken : List Mark) → MayBreak r broken → BreaksAt (ending_of r) broken
+breaks_as (Ok served) broken h = breaks_end served.«end» broken h
+breaks_as (Err conn.ReadFault) broken h = h
+breaks_as (Err conn.WriteFault) broken h = h
+breaks_as (Err conn.NoMemory) broken h = tt
+
 -- the counts of both stores together
-caused_both : (k l : Store) (w w' : WorldState) (items : List Item) → k.faults ≤ w.old_store.faults → l.faults ≤ w.new_store.faults → AreCaused (counts_of w) items (counts_of w') → FaultsRose (k.faults + l.faults) items (w'.old_store.faults + w'.new_store.faults)
-caused_both k l w w' items p q h = elim (caused_sum (counts_of w) (counts_of w') items h) as (λ _. FaultsRose (k.faults + l.faults) items (w'.old_store.faults + w'.new_store.faults)) [
+caused_both : (k l : Store) (w w' : WorldState) (items : List Item) (broken : List Mark) → k.faults ≤ w.old_store.faults → l.faults ≤ w.new_store.faults → AreCausedTo (counts_of w) items broken (counts_of w') → FaultsRose (k.faults + l.faults) items (w'.old_store.faults + w'.new_store.faults)
+caused_both k l w w' items broken p q h = elim (caused_to_sum (counts_of w) (counts_of w') items broken h) as (λ _. FaultsRose (k.faults + l.faults) items (w'.old_store.faults + w'.new_store.faults)) [
   | inl sum ↦ inl (omega (arith, p, q, sum))
   | inr (inl at) ↦ inr (omega (arith, at))
   | inr (inr at) ↦ inr (omega (arith, at))
@@ -127,14 +139,15 @@ module _ (common : Common) (s : Input) (o : Output) (k l : Store) (w : WorldStat
         is_course = served.is_course;
         answered = record {
           rendered = served.talk.answered.rendered;
-          fits = fits_sooner 0 (Tells w') (AllTell (tellings_of k w'.old_store l w'.new_store)) (λ a. record { old = a.old_after; new = a.new_after }) (past_of w') 0 served.course.items []
-              (subst (λ n. FitsFrom 0 (Tells w') (past_of w') n served.course.items []) started served.talk.answered.fits);
+          fits = fits_sooner 0 (Tells w') (AllTell (tellings_of k w'.old_store l w'.new_store)) (λ a. record { old = a.old_after; new = a.new_after }) (past_of w') 0 served.course.items served.course.broken
+              (subst (λ n. FitsFrom 0 (Tells w') (past_of w') n served.course.items served.course.broken) started served.talk.answered.fits);
         };
+        breaks = breaks_as r served.course.broken served.breaks;
         own = subst (λ (es : List Entry). All (λ (e : Entry). e.caller ≡ 0) es) (sym (served.talk.added.grew ∙ ap (λ (es : List Entry). es ++ served.talk.added.more) opened.nothing)) served.talk.added.own;
         opened = opened_along (IsOpened (service_of common) w') k.told l.told w.old_store.told w.new_store.told w'.old_store.told w'.new_store.told opened.opens.old_stays.contents opened.opens.new_stays.contents served.talk.told.old_told served.talk.told.new_told
             (found w'.base same.base (opened.opens.old_stays.number ∙ zero) (opened.opens.new_stays.number ∙ one) opened.opens.shows);
         replayed = replayed_at (service_of common) w' (same.old_number ∙ opened.opens.old_stays.number ∙ zero) (same.new_number ∙ opened.opens.new_stays.number ∙ one) k.told l.told w'.old_store.told w'.new_store.told world.replayed;
-        caused = caused_both k l w w' served.course.items opened.opens.old_stays.faults opened.opens.new_stays.faults served.talk.caused;
+        caused = caused_both k l w w' served.course.items served.course.broken opened.opens.old_stays.faults opened.opens.new_stays.faults served.talk.caused;
         wrote = wrote s o served.course r t x served.ends;
       }
 
@@ -262,8 +275,9 @@ module _ (common : Common) (s : Input) (o : Output) (c c' : Tellings) (t : Input
         old_after = some_less c.old_after c'.old_after less.old_after a.old_after;
         new_before = some_less c.new_before c'.new_before less.new_before a.new_before;
         new_after = some_less c.new_after c'.new_after less.new_after a.new_after;
-      }) (past_of d.world) 0 d.course.items [] d.answered.fits;
+      }) (past_of d.world) 0 d.course.items d.course.broken d.answered.fits;
     };
+    breaks = d.breaks;
     own = d.own;
     opened = carried_told (λ a a' b b'. IsOpened (service_of common) d.world a a') d.opened;
     replayed = carried_told (λ a a' b b'. IsReplay (service_of common) d.world b b') d.replayed;

@@ -11,6 +11,7 @@ use Rattle.mt_meta.specs.Sound.{IsSound}
 use Rattle.mt_meta.specs.Steps.{logical_table}
 use Rattle.mt_open.specs.Opening.{IsDamagedAt}
 use Rattle.mt_world.specs.Worlds.{WorldState, IsReplayed}
+use Rattle.mt_world.specs.WholeCalls.{Mark}
 use Rattle.mt_front.specs.Items.{Item, faults_of}
 use Rattle.mt_front.specs.Answers.{FitsConnection}
 use Rattle.mt_front.specs.Session.{Sent, Cut, past_of, Course, IsCourse, AtInputEnd, AtClose, IsRefused, AtReadFault, AtWriteFault, AtNoMemory}
@@ -108,13 +109,25 @@ Wrote s o NoMemory c t x = AtNoMemory o c x
 abbrev pub FaultsRose : ℕ → List Item → ℕ → Type 0
 FaultsRose before items now = (before + faults_of items ≤ now) ⊎ (2 ^ 64 - 1 ≤ now)
 
+-- an item broke off only where there was no memory
+abbrev pub BreaksAt : Ending → List Mark → Type 0
+BreaksAt Served broken = broken ≡ []
+BreaksAt BadWords broken = broken ≡ []
+BreaksAt ReadFault broken = broken ≡ []
+BreaksAt WriteFault broken = broken ≡ []
+BreaksAt StoreFault broken = broken ≡ []
+BreaksAt Damaged broken = broken ≡ []
+BreaksAt BadInput broken = broken ≡ []
+BreaksAt NoMemory broken = Unit {0}
+
 -- the two stores were opened as a sound pair; the requests are the bytes, in order, up to what is left; there is a world whose history they fit, which has nothing else; and the stores hold what it made of the table
 pub record During (v : Service) (s : Input) (o : Output) (ending : Ending) (c : Tellings) (before now : ℕ) (t : Input) (x : Output) : Type 0 where
   pub course : Course
   pub world : WorldState
   pub world_is : IsWorldOf v world
   pub is_course : IsCourse v.table s course
-  pub answered : FitsConnection 0 (AllTell c) (past_of world) 0 course.items []
+  pub answered : FitsConnection 0 (AllTell c) (past_of world) 0 course.items course.broken
+  pub breaks : BreaksAt ending course.broken
   pub own : All (λ e. e.caller ≡ 0) world.history.entries
   pub opened : WhereTold c (λ a a' b b'. IsOpened v world a a')
   pub replayed : WhereTold c (λ a a' b b'. IsReplay v world b b')

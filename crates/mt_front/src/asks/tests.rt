@@ -2,6 +2,7 @@ use super::{Asked, Echo, asked_by};
 use crate::refusals::BadRequest;
 use mt_chain::{Cond, Op};
 use mt_http_in::{Field, Fields, Incoming};
+use mt_json::Level;
 use mt_model::{Blob, Key, Name, Prop, Props, Tag, Text, Value};
 use std::alloc::Global;
 use std::test::Fail;
@@ -117,8 +118,8 @@ const UNMATCHED: Got = Got::Refused(BadRequest::MissingIfMatch);
 fn routes(rt: HostRuntime) -> Result<(), Fail> {
     let alloc = rt.alloc();
     for (method, target, want) in [
-        ("POST", "/Orders", Got::Insert(Echo::Entity)),
-        ("POST", "/oRDERS", Got::Insert(Echo::Entity)),
+        ("POST", "/Orders", Got::Insert(Echo::Entity(Level::Minimal))),
+        ("POST", "/oRDERS", Got::Insert(Echo::Entity(Level::Minimal))),
         ("PUT", ENTITY, Got::InsertOrReplace),
         ("MERGE", ENTITY, Got::InsertOrMerge),
         ("PATCH", ENTITY, Got::InsertOrMerge),
@@ -223,13 +224,21 @@ fn preferences(rt: HostRuntime) -> Result<(), Fail> {
     let wait = ("Prefer", "wait=1");
     let quiet = ("PREFER", "Return-No-Content");
     for (first, second, echo) in [
-        (NONE, NONE, Echo::Entity),
+        (NONE, NONE, Echo::Entity(Level::Minimal)),
         (quiet, NONE, Echo::NoContent),
-        (("Prefer", "return-content"), NONE, Echo::Entity),
-        (("Prefer", "return-no-content, wait=1"), NONE, Echo::Entity),
-        (wait, quiet, Echo::Entity),
+        (
+            ("Prefer", "return-content"),
+            NONE,
+            Echo::Entity(Level::Minimal),
+        ),
+        (
+            ("Prefer", "return-no-content, wait=1"),
+            NONE,
+            Echo::Entity(Level::Minimal),
+        ),
+        (wait, quiet, Echo::Entity(Level::Minimal)),
         (quiet, wait, Echo::NoContent),
-        (("If-Match", "nonsense"), NONE, Echo::Entity),
+        (("If-Match", "nonsense"), NONE, Echo::Entity(Level::Minimal)),
     ] {
         let sent = Sent {
             first,

@@ -1,5 +1,0 @@
-use Rattle.mt_json.proofs.RoomLaws.{appends_then}
-use Rattle.mt_front.proofs.reply.put_head.Goals as goal
-
-pub returns : goal.returns
-returns c = appends_then (appends_then (appends_then (appends_then c.put.ensures c.put_tag.ensures) c.put-2.ensures) c.put_number.ensures) c.put-3.ensures

@@ -1,0 +1,4 @@
+mod SplitLaws
+mod OptionLaws
+mod QuotedLaws
+mod PathLaws

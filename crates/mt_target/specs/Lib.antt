@@ -1,0 +1,4 @@
+pub mod Quoted
+pub mod Paths
+pub mod Options
+pub mod Targets
