@@ -6,3 +6,4 @@ pub mod CallLaws
 pub mod Showing
 pub mod OnReads
 pub mod QueryLaw
+pub mod AloneLaws

@@ -121,6 +121,10 @@ fn answer_text(alloc: Global, answer: &Result<Answer, TurnFault>) -> Result<Stri
             let (index, cause) = (refusal.index, refusal.cause);
             Ok(format!(in alloc; "{cause:?} at {index} ")?)
         }
+        Ok(Answer::Rows(rows)) => {
+            let count = rows.as_slice().len();
+            Ok(format!(in alloc; "{count} rows ")?)
+        }
         Err(fault) => {
             let fault = *fault;
             Ok(format!(in alloc; "{fault:?} ")?)

@@ -1,0 +1,7 @@
+//! Tests of the world: queries, while a partition moves.
+#![tactic(auto)]
+
+#[cfg(test)]
+mod queries;
+#[cfg(test)]
+mod scenes;
