@@ -65,7 +65,7 @@ room_for_less h n least room = go (nat_lt (length h.entries) h.limit) (nat_le (t
   go true true e x = (let le : nat_le (total_weight h.entries + 64) (2 ^ 30) ≡ true = grind (arith, nat_tests) in le)
 
 -- a weight above the limit is none for which there is room, whatever it is counted as
-room_capped : (h : Kept) (n : ℕ) → has_room h (min (2 ^ 64 - 1) n) ≡ has_room h n
+pub room_capped : (h : Kept) (n : ℕ) → has_room h (min (2 ^ 64 - 1) n) ≡ has_room h n
 room_capped h n = ap (λ b. nat_lt (length h.entries) h.limit && b) same where
   same : nat_le (total_weight h.entries + min (2 ^ 64 - 1) n) (2 ^ 30) ≡ nat_le (total_weight h.entries + n) (2 ^ 30)
   same = grind (arith, nat_tests)
@@ -290,9 +290,9 @@ one_call : (c c' : Stage) (l l' : Log) (ask : StoreAsk) (r : Result StoreReply C
 one_call c c' l l' ask r one = record { on = one.on; counted = one.counted; grew = one.grew }
 
 -- the turn of an actor that the store answered
-pub answered_takes : (c c' : Stage) (caller : ℕ) (a a' : Actor) (ask : StoreAsk) (answer : StoreReply) (l l' : Log) (r : Result Progress TurnFault) → IsPrepared c a ask l
-    → CallsStore (with_log c l) caller ask (Ok answer) c' → Answered a answer c'.log caller r l' a' → TakesSomeTurn c caller a r (with_log c' l') a'
-answered_takes c c' caller a a' ask answer l l' r p calls after = (
+pub answered_takes : (c d c' : Stage) (caller : ℕ) (a a' : Actor) (ask : StoreAsk) (answer : StoreReply) (l l' : Log) (r : Result Progress TurnFault) → IsPrepared c a ask l
+    → CallsStore (with_log c l) caller ask (Ok answer) d → c' ≡ d → Answered a answer c'.log caller r l' a' → TakesSomeTurn c caller a r (with_log c' l') a'
+answered_takes c d c' caller a a' ask answer l l' r p called same after = (let calls = subst (CallsStore (with_log c l) caller ask (Ok answer)) (sym same) called in (
   after.entry,
   record {
     fits = p.fits;
@@ -300,7 +300,7 @@ answered_takes c c' caller a a' ask answer l l' r p calls after = (
     moves = answer_moves c (with_log c' l') a a' ask answer r after.entry p.asks (one_call c c' l l' ask (Ok answer) calls.0) after.goes;
     adds = adds_after c.log l l' caller after.entry p.reserves (subst (λ k. Adds k caller after.entry l') calls.1 after.adds);
   },
-)
+))
 
 -- the turn of an actor whose store call came to nothing
 pub unanswered_takes : (c c' : Stage) (caller : ℕ) (a : Actor) (ask : StoreAsk) (l : Log) (fault : TurnFault) → IsPrepared c a ask l

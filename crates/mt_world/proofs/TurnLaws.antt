@@ -1,5 +1,5 @@
 -- A turn keeps the world, and does what it is to do: proved once for any actor whose step is one of the law for every step.
-use Rattle.std.proofs.Common.{◌≡◌, ◌∙◌, ◌⊎◌, ℕ, ◌+◌, ◌-◌, ◌^◌, ◌≤◌, ◌<◌, Bool, true, false, ◌&&◌, List, ◌∷◌, refl, sym, ap, subst, arith, inl, inr, IsTrue, Option, Some, None, Result, Ok, Err, if◌then◌else◌}
+use Rattle.std.proofs.Common.{◌≡◌, ◌∙◌, ◌⊎◌, ℕ, ◌+◌, ◌-◌, ◌^◌, ◌≤◌, ◌<◌, Bool, true, false, List, refl, sym, ap, subst, arith, inl, inr, IsTrue, Option, Some, None, Result, Ok, Err}
 use Rattle.std.specs.Prelude.{IsSome, not}
 use Rattle.mt_model.specs.declared.entity.Entity.{Entity}
 use Rattle.mt_chain.specs.declared.ask.Side.{Side}

@@ -1,6 +1,5 @@
 -- How an actor moves: what it asks of a store, and what becomes of it and of the history with the store's reply. Each kind of actor has its line in each definition.
-use Rattle.std.specs.Prelude.{◌≡◌, ℕ, Bool, List, [], Option, Some, None, Result, Ok, Err}
-use Rattle.mt_model.specs.declared.text.NoMemory.{NoMemory as NoMemoryOf}
+use Rattle.std.specs.Prelude.{◌≡◌, ℕ, Bool, List, [], Option, Some, None, Result, Ok}
 use Rattle.mt_chain.specs.declared.ask.StoreAsk.{StoreAsk}
 use Rattle.mt_chain.specs.declared.ask.StoreReply.{StoreReply}
 use Rattle.mt_chain.specs.Batch.{batch_weight}
@@ -24,7 +23,6 @@ use Rattle.mt_world.specs.declared.actor.ClientCall.{ClientCall}
 use Rattle.mt_world.specs.declared.actor.ClientCall.TheVariants as client
 use Rattle.mt_world.specs.declared.actor.Actor.{Actor}
 use Rattle.mt_world.specs.declared.actor.Actor.TheVariants.{Client}
-use Rattle.mt_world.specs.declared.actor.Answer.{Answer}
 use Rattle.mt_world.specs.declared.actor.Answer.TheVariants.{Written, Refused, Rows}
 use Rattle.mt_world.specs.declared.actor.Progress.{Progress}
 use Rattle.mt_world.specs.declared.actor.Progress.TheVariants.{More, Done}

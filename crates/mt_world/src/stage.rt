@@ -166,15 +166,15 @@ impl<K: Keeper> Stage<K> {
         &mut self,
         alloc: Global,
         caller: u32,
-        ask: &StoreAsk,
+        ask: StoreAsk,
     ) -> Result<StoreReply, TurnFault>
-        requires can { CanAsk ask.now.ask }
+        requires can { CanAsk ask.ask }
         requires ready { IsReady self.old.log caller }
         requires room { IsTrue (has_room self.old.log.history 64) }
-        ensures { CallsStore self.old caller ask.now result self.new }
+        ensures { CallsStore self.old caller ask result self.new }
     {
         self.calls = self.calls.saturating_add(1);
-        match call_store(alloc, &mut self.old_store, &mut self.new_store, ask) {
+        match call_store(alloc, &mut self.old_store, &mut self.new_store, &ask) {
             Ok(reply) => Ok(reply),
             Err(CallFault::NoMemory) => Err(TurnFault::NoMemory),
             Err(CallFault::Failed) => {
@@ -194,7 +194,7 @@ impl<K: Keeper> Stage<K> {
         let Ok((ask, room)) = prepare(alloc, &mut self.log, caller, &call) else {
             return Err(TurnFault::NoMemory);
         };
-        let reply = self.ask_store(alloc, caller, &ask)?;
+        let reply = self.ask_store(alloc, caller, ask)?;
         answer(alloc, &mut self.log, caller, call, room, reply)
     }
 
@@ -208,7 +208,7 @@ impl<K: Keeper> Stage<K> {
         let Ok(ask) = query::prepare(alloc, &mut self.log, caller, &call) else {
             return Err(TurnFault::NoMemory);
         };
-        let reply = self.ask_store(alloc, caller, &ask)?;
+        let reply = self.ask_store(alloc, caller, ask)?;
         query::answer(alloc, &mut self.log, caller, call, reply)
     }
 

@@ -1,4 +1,4 @@
-use Rattle.std.proofs.Common.{◌≡◌, arith, sym, ap, subst, ◌∙◌, length, Ok}
+use Rattle.std.proofs.Common.{arith, sym, ap, subst, ◌∙◌, length, Ok}
 use Rattle.mt_batch_plan.specs.Calls.{Absorbs}
 use Rattle.mt_world.proofs.StageLaws.{written_at_write, batch_answered, written_move, refused_move, batch_goes_on, batch_forgets}
 use Rattle.mt_world.proofs.stage.answer.Goals as goal
