@@ -13,10 +13,7 @@ pub enum Request {
     Batch(Batch),
 
     /// The rows of a partition, or those of them that a filter matches.
-    Query {
-        pk: Text,
-        filter: Option<Filter>,
-    },
+    Query { pk: Text, filter: Option<Filter> },
 }
 
 /// A client's call.

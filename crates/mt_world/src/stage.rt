@@ -213,7 +213,12 @@ impl<K: Keeper> Stage<K> {
     }
 
     /// One turn of a client's call.
-    fn client_turn(&mut self, alloc: Global, caller: u32, call: ClientCall) -> Result<Step, TurnFault>
+    fn client_turn(
+        &mut self,
+        alloc: Global,
+        caller: u32,
+        call: ClientCall,
+    ) -> Result<Step, TurnFault>
         requires { CanStep (Actor.Client call) }
         ensures { TakesSomeTurn self.old caller (Actor.Client call) (said_by result) self.new (left_by result) }
     {

@@ -169,7 +169,11 @@ fn leaves_an_entry_without_rows_too(rt: HostRuntime) -> Result<(), Fail> {
         old: &[],
         new: &[],
         failing: 0,
-        asks: [Ask::Query("q", ""), Ask::Insert(40), Ask::Query("p", "RowKey eq 's'")],
+        asks: [
+            Ask::Query("q", ""),
+            Ask::Insert(40),
+            Ask::Query("p", "RowKey eq 's'"),
+        ],
     };
     let got = played(alloc, fresh, 10)?;
     let want = "[] calls 1; 0.2 calls 3; [] calls 4; query 0.0 q;batch 0.1 ;filtered 0.2 p;";
