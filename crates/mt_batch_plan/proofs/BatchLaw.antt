@@ -29,7 +29,7 @@ use Rattle.mt_meta.specs.Markers.{marker_key, old_phase_of, new_phase_of}
 use Rattle.mt_meta.specs.Logical.{Pair, old_says, old_state, new_says, new_state, old_at, new_at, old_state_at, new_state_at}
 use Rattle.mt_meta.specs.Sound.{IsSound}
 use Rattle.mt_meta.specs.Facts.{AllPlain, Grows, is_prefer_new}
-use Rattle.mt_meta.specs.Steps.{AllHold, logical_table, with_old, with_new, MeansOn, PairMeans}
+use Rattle.mt_meta.specs.Steps.{AllHold, logical_table, with_old, with_new, contents_of, number_of, with_store, MeansOn, PairMeans}
 use Rattle.mt_meta.proofs.Growth.{grows_self}
 use Rattle.mt_meta.proofs.Actors.{plain_apart, plain_rows}
 use Rattle.mt_batch_plan.specs.declared.basis.Basis.{Basis}
@@ -43,9 +43,10 @@ use Rattle.mt_batch_plan.specs.declared.call.BatchProgress.TheVariants.{More, Wr
 use Rattle.mt_batch_plan.specs.Bases.{table_on, side_of, put_by, marker_put, basis_facts}
 use Rattle.mt_batch_plan.specs.Calls.{AreNames, Asks, begin, decided, decide, marker_says, saw_old, saw, phase_says, saw_new, saw_entries, Absorbs, PlaceFits, place_facts}
 use Rattle.mt_batch_plan.specs.BatchSteps.{Does, BatchStep}
-use Rattle.mt_batch_plan.proofs.OldChanges.{is_write_state}
+use Rattle.mt_meta.proofs.ByMarkers.{is_write_state}
+use Rattle.mt_meta.proofs.ReadLaws.{read_at, named_known, closed_read, closed_none}
 use Rattle.mt_batch_plan.proofs.OpLaws.{marker_named}
-use Rattle.mt_batch_plan.proofs.OnRead.{contents_of, number_of, with_store, read_at, named_known, turned_read, closed_read, closed_none}
+use Rattle.mt_batch_plan.proofs.OnRead.{turned_read}
 use Rattle.mt_batch_plan.proofs.ReadLaws.{Agrees, rows_agree, unborn_agree, overlay_agrees, entries_agree, nothing_agrees}
 use Rattle.mt_batch_plan.proofs.WriteLaws.{write_law}
 
@@ -158,7 +159,7 @@ again ops retired p q to sound at same = subst (λ x. Stepped ops retired p More
 
 -- what an answer to a write means of the store that is written
 pub made_by : (side : Side) (pk : List ℕ) (puts : List Put) (given : List Tag) (p q : Pair) → MeansOn side (ask.Apply pk puts) (reply.Applied given) p q
-    → (c : Contents) × (judge (number_of side p) (contents_of side p) pk puts ≡ Done c given) × (q ≡ with_store side p c)
+    → (c : Contents) × (judge (number_of p side) (contents_of p side) pk puts ≡ Done c given) × (q ≡ with_store p side c)
 made_by Old pk puts given p q means = (q.old, means.0.0, means.1)
 made_by New pk puts given p q means = (q.new, means.0.0, means.1)
 
@@ -177,7 +178,7 @@ stepped ops (Write basis) to a (reply.Applied given) (Written tags) p q retired 
     let made = made_by (side_of basis) (partition_of ops) (marker_put basis ∷ map (put_by basis) asks.0) given p q (subst (λ x. PairMeans x (reply.Applied given) p q) asks.2 means) in
     let wrote = write_law ops basis retired p asks.0 made.0 given tags batch sound asks.1 fits.0 fits.1 facts made.1 absorbs.1 in
     subst (λ x. Stepped ops retired p (Written tags) x to) (sym made.2)
-    (subst (Stepped ops retired p (Written tags) (with_store (side_of basis) p made.0)) (sym absorbs.0)
+    (subst (Stepped ops retired p (Written tags) (with_store p (side_of basis) made.0)) (sym absorbs.0)
     (record { sound = (wrote.step []).sound; grows = λ own. (wrote.step own).grows; knows = tt; does = wrote.written }))
 stepped ops (Write basis) to a (reply.Unmet index) More p q retired batch fits sound facts asks means absorbs =
     again ops retired p q to sound absorbs (stays_on (side_of basis) _ (reply.Unmet index) p q (λ n x y m. m.1) (subst (λ x. PairMeans x (reply.Unmet index) p q) asks.2 means))

@@ -1,5 +1,5 @@
 -- What a client's write in the new store does to a sound pair.
-use Rattle.std.proofs.Common.{◌≡◌, ◌≢◌, ◌⊎◌, ℕ, ◌+◌, ◌≤◌, Bool, true, false, List, [], ◌∷◌, Option, Some, None, refl, sym, ap, ◌∙◌, subst, arith, inl, inr, if◌then◌else◌}
+use Rattle.std.proofs.Common.{◌≡◌, ◌≢◌, ◌⊎◌, ℕ, ◌+◌, ◌≤◌, true, List, [], ◌∷◌, Option, Some, None, refl, sym, ap, ◌∙◌, subst, arith, inl, inr, if◌then◌else◌}
 use Rattle.std.specs.Prelude.{is_some}
 use Rattle.mt_model.specs.declared.key.KeyPart.TheVariants.{Partition}
 use Rattle.mt_model.specs.declared.tag.Tag.{Tag}
@@ -20,22 +20,22 @@ use Rattle.mt_meta.specs.declared.marker.NewPhase.TheVariants.{Filling, UseNew}
 use Rattle.mt_meta.specs.declared.mark.Mark.TheVariants.{Live, Copy, Tomb}
 use Rattle.mt_meta.specs.Markers.{marker_key, marker_props, new_kind, new_phase_of}
 use Rattle.mt_meta.specs.Marks.{mark_of, stored}
-use Rattle.mt_meta.specs.Logical.{Pair, NoOld, NoNew, AtFilling, AtUseNew, new_says, old_state, new_state, old_at, new_at, old_state_at, new_state_at, from_new, logical}
+use Rattle.mt_meta.specs.Logical.{Pair, NoOld, AtFilling, AtUseNew, new_says, old_state, new_state, old_at, new_at, old_state_at, new_state_at, from_new, shown_over, logical}
 use Rattle.mt_meta.specs.Sound.{IsNewMarker, IsEntry, NoTomb, IsKept, IsSound}
-use Rattle.mt_meta.specs.Modes.{Mode, Empty, AtOld, Prepared, Copying, Overlaid, Settled, NewOnly, Broken, mode_of, mode, rank, FitsMode, shown_in}
+use Rattle.mt_meta.specs.Modes.{Mode, Empty, AtOld, Prepared, Copying, Overlaid, Settled, NewOnly, Broken, mode_of, mode, rank, FitsMode}
 use Rattle.mt_meta.specs.declared.fact.Keys.{Keys}
 use Rattle.mt_meta.specs.declared.fact.Fact.{Fact}
-use Rattle.mt_meta.specs.Facts.{KnowsRow, KnowsTurned, EntryStays, is_filling, is_use_new, is_prefer_new}
+use Rattle.mt_meta.specs.Facts.{KnowsRow, KnowsTurned, EntryStays, is_filling, is_prefer_new}
 use Rattle.mt_meta.specs.Steps.{with_new, StepIn}
 use Rattle.mt_meta.proofs.MarkLaws.{live_reads}
 use Rattle.mt_meta.proofs.Rules.{new_read, key_cases, to_modes}
-use Rattle.mt_meta.proofs.ShownLaws.{logical_in}
-use Rattle.mt_meta.proofs.ModeLaws.{IsWhole, whole, is_overlaid, filling_ranks, prefer_new_ranks, rank_from, use_new_rank}
+use Rattle.mt_meta.proofs.ByMarkers.{filling_mode, use_new_low, shows_fill, shows_new, shows_nothing, empty_mode}
+use Rattle.mt_meta.proofs.ModeLaws.{IsWhole, whole}
 use Rattle.mt_meta.proofs.Growth.{stays_self}
 use Rattle.mt_meta.proofs.StorePuts.{moves_puts, Leaves, touched, IsSeen, seen, no_row, the_row}
 use Rattle.mt_meta.proofs.Parts.{FormsAt, KeptAt, kept_on, new_step}
 use Rattle.mt_batch_plan.proofs.ClientPuts.{LeavesAs, IsPutOf, marker_stays, IsOneOf, left_props, one_of}
-use Rattle.mt_batch_plan.specs.Bases.{shown_over, marker_birth_new}
+use Rattle.mt_batch_plan.specs.Bases.{marker_birth_new}
 
 -- what a client leaves as an entry: a live row, and while new fills also a tombstone
 abbrev pub IsLeft : NewPhase → List Prop → Type 0
@@ -138,28 +138,9 @@ module _ (p : Pair) (pk : List ℕ) (phase : NewPhase) (rest : List Put) (n : �
 still_kept : (p : Pair) (c : Contents) (tag : Tag) → IsKept p p.new_number tag → IsKept (with_new p c) p.new_number tag
 still_kept p c tag h = kept_on p p.new_number tag p.old c (omega arith) h
 
--- ---- what clients see where new is marked
+-- ---- where new is used alone
 
--- old is turned and new fills: they see the entries over old's rows
-filling_mode : (p : Pair) (pk : List ℕ) → IsSound p → new_state_at p pk ≡ AtFilling → is_prefer_new (old_state_at p pk) ≡ true → mode p pk ≡ Overlaid
-filling_mode p pk s fills turned = is_overlaid (mode p pk) (prefer_new_ranks p pk s turned).0 (filling_ranks p pk s (ap is_filling fills)).1
-
-pub shows_fill : (p : Pair) (pk rk : List ℕ) → IsSound p → new_state_at p pk ≡ AtFilling → is_prefer_new (old_state_at p pk) ≡ true → rk ≢ marker_key
-    → logical p pk rk ≡ shown_over Filling (old_at p pk rk) (new_at p pk rk)
-shows_fill p pk rk s fills turned other = logical_in p pk rk other s ∙ ap (λ m. shown_in m (old_at p pk rk) (new_at p pk rk)) (filling_mode p pk s fills turned)
-
--- new is used alone: they see its entries
-late_shows : (m : Mode) → IsWhole m → 5 ≤ rank m → (row entry : Option Stored) → shown_in m row entry ≡ from_new entry
-late_shows Empty w low row entry = absurd (omega arith)
-late_shows AtOld w low row entry = absurd (omega arith)
-late_shows Prepared w low row entry = absurd (omega arith)
-late_shows Copying w low row entry = absurd (omega arith)
-late_shows Overlaid w low row entry = absurd (omega arith)
-late_shows Settled w low row entry = refl
-late_shows NewOnly w low row entry = refl
-late_shows Broken w low row entry = absurd w
-
--- and an entry fits that is no tombstone where the one before was none
+-- an entry fits that is no tombstone where the one before was none
 late_fits : (m : Mode) → IsWhole m → 5 ≤ rank m → (row entry entry' : Option Stored) → (NoTomb entry → NoTomb entry') → FitsMode m row entry → FitsMode m row entry'
 late_fits Empty w low row entry entry' f h = absurd (omega arith)
 late_fits AtOld w low row entry entry' f h = absurd (omega arith)
@@ -169,30 +150,6 @@ late_fits Overlaid w low row entry entry' f h = absurd (omega arith)
 late_fits Settled w low row entry entry' f h = tt
 late_fits NewOnly w low row entry entry' f h = (h.0, f h.1)
 late_fits Broken w low row entry entry' f h = absurd w
-
-use_new_low : (p : Pair) (pk : List ℕ) → IsSound p → new_state_at p pk ≡ AtUseNew → 5 ≤ rank (mode p pk)
-use_new_low p pk s used = rank_from (λ o n. is_use_new n) 5 use_new_rank p pk s (ap is_use_new used)
-
-pub shows_new : (p : Pair) (pk rk : List ℕ) → IsSound p → new_state_at p pk ≡ AtUseNew → rk ≢ marker_key
-    → logical p pk rk ≡ shown_over UseNew (old_at p pk rk) (new_at p pk rk)
-shows_new p pk rk s used other = logical_in p pk rk other s ∙ late_shows (mode p pk) (whole p s pk) (use_new_low p pk s used) (old_at p pk rk) (new_at p pk rk)
-
--- no marker in either: they see nothing
-nothing_mode : (b : Bool) → mode_of NoOld NoNew b ≡ Empty
-nothing_mode false = refl
-nothing_mode true = refl
-
-empty_mode : (p : Pair) (pk : List ℕ) → old_at p pk marker_key ≡ None → new_at p pk marker_key ≡ None → mode p pk ≡ Empty
-empty_mode p pk none nothing =
-    ap (λ x. mode_of (old_state x) (new_state_at p pk) p.old.sealed) none
-    ∙ ap (λ x. mode_of NoOld (new_state x) p.old.sealed) nothing
-    ∙ nothing_mode p.old.sealed
-
-pub shows_nothing : (p : Pair) (pk rk : List ℕ) → IsSound p → old_at p pk marker_key ≡ None → new_at p pk marker_key ≡ None → logical p pk rk ≡ None
-shows_nothing p pk rk s none nothing = elim (key_cases rk) as (λ _. logical p pk rk ≡ None) [
-  | inl e ↦ ap (logical p pk) e
-  | inr other ↦ logical_in p pk rk other s ∙ ap (λ m. shown_in m (old_at p pk rk) (new_at p pk rk)) (empty_mode p pk none nothing)
-]
 
 -- ---- a client writes under the marker that it read
 

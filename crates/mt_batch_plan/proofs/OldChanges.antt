@@ -1,5 +1,5 @@
 -- What a client's write in the old store does to a sound pair.
-use Rattle.std.proofs.Common.{◌≡◌, ◌≢◌, ◌⊎◌, ℕ, ◌+◌, ◌≤◌, Bool, true, false, List, [], ◌∷◌, Option, Some, None, refl, sym, ap, ◌∙◌, subst, arith, inl, inr, if◌then◌else◌}
+use Rattle.std.proofs.Common.{◌≡◌, ◌≢◌, ℕ, ◌+◌, ◌≤◌, Bool, true, false, List, [], ◌∷◌, Option, Some, None, refl, sym, ap, ◌∙◌, subst, arith, inl, inr, if◌then◌else◌}
 use Rattle.std.specs.Prelude.{filter}
 use Rattle.mt_model.specs.declared.key.KeyPart.TheVariants.{Partition}
 use Rattle.mt_model.specs.declared.tag.Tag.{Tag}
@@ -14,26 +14,26 @@ use Rattle.mt_chain.specs.Puts.{unmet_from, next_tag}
 use Rattle.mt_chain.specs.StoreCall.{Contents, Done, is_sealed_off, judge}
 use Rattle.mt_chain.proofs.KeyLaws.{text_false}
 use Rattle.mt_chain.proofs.RowLaws.{row_of_partition}
-use Rattle.mt_chain.proofs.PutLaws.{left_by, row_after, all_puts, counter_rises, elsewhere, Each, each_held}
+use Rattle.mt_chain.proofs.PutLaws.{left_by, row_after, all_puts, counter_rises, Each, each_held}
 use Rattle.mt_chain.proofs.JudgeLaws.{contents_after, was_done, allowed_sealed}
 use Rattle.mt_meta.specs.declared.marker.Phase.{Phase}
 use Rattle.mt_meta.specs.declared.marker.Phase.TheVariants.{UseOld, PreferOld, PreferNew}
 use Rattle.mt_meta.specs.declared.mark.Mark.TheVariants.{Copy}
 use Rattle.mt_meta.specs.Markers.{marker_key, marker_props, old_kind, old_phase_of}
 use Rattle.mt_meta.specs.Marks.{mark_of}
-use Rattle.mt_meta.specs.Logical.{Pair, OldState, NoOld, AtUseOld, AtPreferOld, AtPreferNew, BadOld, NoNew, old_says, old_state, old_at, new_at, old_state_at, new_state_at, from_old, logical}
+use Rattle.mt_meta.specs.Logical.{Pair, AtUseOld, NoNew, old_says, old_state, old_at, new_at, old_state_at, new_state_at, from_old, logical}
 use Rattle.mt_meta.specs.Sound.{IsOldMarker, IsOldRow, IsKept, IsSound}
-use Rattle.mt_meta.specs.Modes.{Mode, Empty, AtOld, Prepared, Copying, Overlaid, Settled, NewOnly, Broken, mode_of, mode, rank, FitsMode, shown_in}
+use Rattle.mt_meta.specs.Modes.{Empty, AtOld, mode_of, mode, rank, FitsMode}
 use Rattle.mt_meta.specs.declared.fact.Fact.{Fact}
 use Rattle.mt_meta.specs.Facts.{KnowsRow}
 use Rattle.mt_meta.specs.Steps.{with_old, StepIn}
 use Rattle.mt_meta.proofs.MarkLaws.{client_unmarked}
 use Rattle.mt_meta.proofs.Rules.{old_read, key_cases, to_modes}
-use Rattle.mt_meta.proofs.ShownLaws.{logical_in}
-use Rattle.mt_meta.proofs.ModeLaws.{IsWhole, old_in, new_in, whole, says, early_shows, early_fits, unsealed_empty}
+use Rattle.mt_meta.proofs.ByMarkers.{is_write_state, ranks_at, shows_old, shows_none}
+use Rattle.mt_meta.proofs.ModeLaws.{new_in, says, early_fits, unsealed_empty}
 use Rattle.mt_meta.proofs.Growth.{no_rows}
 use Rattle.mt_meta.proofs.StorePuts.{moves_puts, IsSeen, seen, no_row, the_row}
-use Rattle.mt_meta.proofs.Parts.{FormsAt, KeptAt, kept_on, by_part, old_early}
+use Rattle.mt_meta.proofs.Parts.{FormsAt, KeptAt, kept_on, old_early}
 use Rattle.mt_batch_plan.proofs.ClientPuts.{IsPutOf, marker_stays, IsOneOf, one_of}
 use Rattle.mt_batch_plan.specs.Bases.{marker_birth, is_write_phase}
 
@@ -43,14 +43,6 @@ IsVisible ps = filter is_visible ps ≡ ps
 
 abbrev pub IsClientPut : List ℕ → Put → Type 0
 IsClientPut pk put = IsPutOf pk IsVisible (Unit {0}) put
-
--- a marker of old that lets clients write there
-abbrev pub is_write_state : OldState → Bool
-is_write_state NoOld = false
-is_write_state AtUseOld = true
-is_write_state AtPreferOld = true
-is_write_state AtPreferNew = false
-is_write_state BadOld = false
 
 -- a write of one partition of old
 pub record OldWrite (p : Pair) (part : List ℕ) (rest : List Put) (n : ℕ) (q : Pair) : Type 0 where
@@ -86,31 +78,6 @@ write_says None = refl
 write_says (Some UseOld) = refl
 write_says (Some PreferOld) = refl
 write_says (Some PreferNew) = refl
-
-write_ranks : (m : Mode) → IsWhole m → is_write_state (old_in m) ≡ true → (1 ≤ rank m) × (rank m ≤ 3)
-write_ranks Empty w h = absurd cc
-write_ranks AtOld w h = (omega arith, omega arith)
-write_ranks Prepared w h = (omega arith, omega arith)
-write_ranks Copying w h = (omega arith, omega arith)
-write_ranks Overlaid w h = absurd cc
-write_ranks Settled w h = absurd cc
-write_ranks NewOnly w h = absurd cc
-write_ranks Broken w h = absurd w
-
-ranks_at : (p : Pair) (pk : List ℕ) → IsSound p → is_write_state (old_state_at p pk) ≡ true → (1 ≤ rank (mode p pk)) × (rank (mode p pk) ≤ 3)
-ranks_at p pk s h = write_ranks (mode p pk) (whole p s pk) (ap is_write_state (sym (says p s pk).old) ∙ h)
-
-pub shows_old : (p : Pair) (pk rk : List ℕ) → IsSound p → is_write_state (old_state_at p pk) ≡ true → rk ≢ marker_key → logical p pk rk ≡ from_old (old_at p pk rk)
-shows_old p pk rk s h other =
-    let r = ranks_at p pk s h in
-    logical_in p pk rk other s ∙ early_shows (mode p pk) r.0 r.1 (old_at p pk rk) (new_at p pk rk)
-
--- without a marker, and where old is not sealed, they see nothing
-pub shows_none : (p : Pair) (pk rk : List ℕ) → IsSound p → old_at p pk marker_key ≡ None → p.old.sealed ≡ false → logical p pk rk ≡ None
-shows_none p pk rk s none open_old = elim (key_cases rk) as (λ _. logical p pk rk ≡ None) [
-  | inl e ↦ ap (logical p pk) e
-  | inr other ↦ logical_in p pk rk other s ∙ ap (λ m. shown_in m (old_at p pk rk) (new_at p pk rk)) (unsealed_empty p pk s (ap old_state none) open_old)
-]
 
 -- ---- a client writes under the marker that it read
 

@@ -25,13 +25,13 @@ use Rattle.mt_meta.specs.declared.mark.Mark.TheVariants.{Live, Copy, Tomb}
 use Rattle.mt_meta.specs.declared.marker.NewPhase.{NewPhase}
 use Rattle.mt_meta.specs.declared.marker.NewPhase.TheVariants.{Filling, UseNew}
 use Rattle.mt_meta.specs.Marks.{mark_of, marked, stored}
-use Rattle.mt_meta.specs.Logical.{new_by, filling_by, from_old}
+use Rattle.mt_meta.specs.Logical.{new_by, filling_by, from_old, shown_over}
 use Rattle.mt_meta.specs.Steps.{as_row}
 use Rattle.mt_meta.proofs.MarkLaws.{live_reads, live_visible}
 use Rattle.mt_rules.proofs.VisibleLaws.{none_hidden}
 use Rattle.mt_batch_plan.specs.declared.basis.Basis.{Basis}
 use Rattle.mt_batch_plan.specs.declared.basis.Basis.TheVariants.{OldRows, OldBirth, Overlay, NewRows, NewBirth}
-use Rattle.mt_batch_plan.specs.Bases.{shown_over, seen_on, seen_by, stored_in, under_in, kept_props, kept_gone, untagged, kept_on, put_of, put_over, put_by}
+use Rattle.mt_batch_plan.specs.Bases.{seen_on, seen_by, stored_in, under_in, kept_props, kept_gone, untagged, kept_on, put_of, put_over, put_by}
 use Rattle.mt_batch_plan.proofs.ClientPuts.{LeavesAs, IsPutOf}
 use Rattle.mt_batch_plan.proofs.OldChanges.{IsVisible}
 use Rattle.mt_batch_plan.proofs.NewChanges.{IsLeft, MayDelete}

@@ -14,12 +14,12 @@ use Rattle.mt_meta.specs.Facts.{KnowsTurned, is_in, is_filling}
 use Rattle.mt_meta.specs.Steps.{as_row, logical_table}
 use Rattle.mt_batch_plan.specs.declared.basis.Basis.{Basis}
 use Rattle.mt_batch_plan.specs.declared.basis.Basis.TheVariants.{OldRows, OldBirth, Overlay, NewRows, NewBirth}
-use Rattle.mt_batch_plan.specs.Bases.{kept_in, seen_on, seen_by, table_on, row_keys}
+use Rattle.mt_batch_plan.specs.Bases.{seen_on, seen_by, table_on, row_keys}
 use Rattle.mt_batch_plan.specs.Calls.{AreNames}
-use Rattle.mt_batch_plan.proofs.OldChanges.{is_write_state, shows_old, shows_none}
-use Rattle.mt_batch_plan.proofs.NewChanges.{shows_fill, shows_new, shows_nothing}
+use Rattle.mt_meta.specs.ReadRows.{kept_in}
+use Rattle.mt_meta.proofs.ByMarkers.{is_write_state, shows_old, shows_none, shows_fill, shows_new, shows_nothing}
+use Rattle.mt_meta.proofs.ReadLaws.{kept_at, turned_row}
 use Rattle.mt_batch_plan.proofs.OpLaws.{each_all, both_all, IsOf, ops_of, each_key, key_named}
-use Rattle.mt_batch_plan.proofs.OnRead.{kept_at, turned_kept}
 
 -- the table that a batch is judged on is the logical one at its operations' keys
 abbrev pub Agrees : Pair → List Op → Basis → Type 0
@@ -49,7 +49,7 @@ module _ (p : Pair) (ops : List Op) (sound : IsSound p) (batch : IsBatch ops) wh
       let basis = Overlay rows (named_rows p.new.rows (partition_of ops) names) in
       agrees p ops basis batch (λ rk other named.
       ap (option_map as_row) (shows_fill p (partition_of ops) rk sound fills (turned.turned (ap is_filling fills)) other)
-      ∙ ap (λ row. seen_on basis row (new_at p (partition_of ops) rk)) (turned_kept p (partition_of ops) rk ops rows turned (ap is_filling fills) other named)
+      ∙ ap (λ row. seen_on basis row (new_at p (partition_of ops) rk)) (turned_row p (partition_of ops) rk (keys.Named (row_keys ops)) rows turned (ap is_filling fills) other named)
       ∙ ap (seen_on basis (kept_in rows rk)) (sym (kept_at p.new.rows (partition_of ops) names rk (key_named ops names rk are named))))
 
   pub entries_agree : (names : List (List ℕ)) → AreNames ops names → new_state_at p (partition_of ops) ≡ AtUseNew → Agrees p ops (NewRows (named_rows p.new.rows (partition_of ops) names))

@@ -1,6 +1,5 @@
 -- What a batch is judged on and written over: rows of old, entries of new over them, entries of new alone, or none where the partition is born.
-use Rattle.std.specs.Prelude.{◌≡◌, ℕ, Bool, true, false, List, [], ◌∷◌, ◌++◌, map, Option, Some, None, option_map}
-use Rattle.mt_model.specs.declared.tag.Tag.{Tag}
+use Rattle.std.specs.Prelude.{◌≡◌, ℕ, Bool, true, false, List, [], ◌∷◌, map, Option, Some, None, option_map}
 use Rattle.mt_model.specs.declared.value.Prop.{Prop}
 use Rattle.mt_chain.specs.declared.op.Op.{Op}
 use Rattle.mt_chain.specs.declared.row.Put.{Put}
@@ -9,7 +8,6 @@ use Rattle.mt_chain.specs.declared.row.Stored.{Stored}
 use Rattle.mt_chain.specs.declared.row.StoredRow.{StoredRow}
 use Rattle.mt_chain.specs.declared.ask.Side.{Side}
 use Rattle.mt_chain.specs.declared.ask.Side.TheVariants.{Old, New}
-use Rattle.mt_chain.specs.declared.query.PkFrom.TheVariants as start
 use Rattle.mt_chain.specs.Rows.{row_in}
 use Rattle.mt_chain.specs.Table.{Table}
 use Rattle.mt_chain.specs.Effect.{op_key, effect, left_by, any_tag}
@@ -24,34 +22,13 @@ use Rattle.mt_meta.specs.declared.fact.Fact.{Fact}
 use Rattle.mt_meta.specs.declared.fact.Fact.TheVariants as fact
 use Rattle.mt_meta.specs.Markers.{marker_key, marker_props, old_kind, new_kind, old_phase_of, new_phase_of}
 use Rattle.mt_meta.specs.Marks.{stored}
-use Rattle.mt_meta.specs.Logical.{Shown, from_old, from_new, from_both}
+use Rattle.mt_meta.specs.Logical.{Shown, from_old, shown_over}
 use Rattle.mt_meta.specs.Steps.{as_row, row_facts}
+use Rattle.mt_meta.specs.ReadRows.{kept_in, marker_tag, closed_fact}
 use Rattle.mt_batch_plan.specs.declared.basis.Basis.{Basis}
 use Rattle.mt_batch_plan.specs.declared.basis.Basis.TheVariants.{OldRows, OldBirth, Overlay, NewRows, NewBirth}
 
--- ---- the rows that were read
-
--- a row that was read, as the store keeps it
-abbrev pub kept_row : StoredRow → Stored
-kept_row r = record { props = r.props; tag = r.tag }
-
-abbrev pub kept_in : List StoredRow → List ℕ → Option Stored
-kept_in rows rk = option_map kept_row (row_in rows rk)
-
--- the tag of the marker among rows that were read
-abbrev pub tag_or : Option StoredRow → Tag
-tag_or None = any_tag
-tag_or (Some row) = row.tag
-
-abbrev pub marker_tag : List StoredRow → Tag
-marker_tag rows = tag_or (row_in rows marker_key)
-
 -- ---- what clients see
-
--- while new fills, an entry over old's row; once new is used alone, the entry
-abbrev pub shown_over : NewPhase → Option Stored → Option Stored → Option Shown
-shown_over Filling row entry = from_both row entry
-shown_over UseNew row entry = from_new entry
 
 -- what clients see where this is the row of the store that is written, and old has that row under it
 abbrev pub shown_on : Basis → Option Stored → Option Stored → Option Shown
@@ -190,10 +167,6 @@ row_keys ops = map (λ op. (op_key op).rk) ops
 -- once old was turned: while new fills, old's rows at the operations' keys stay those that were read
 abbrev pub turned_fact : List Op → List StoredRow → Fact
 turned_fact ops rows = fact.Turned (partition_of ops) (keys.Named (row_keys ops)) rows
-
--- once old was sealed: it has nothing of this partition, which ends before its key with a zero byte behind it
-abbrev pub closed_fact : List ℕ → Fact
-closed_fact pk = fact.Closed (start.From pk) (Some (pk ++ (0 ∷ [])))
 
 -- at a write: the properties of the rows read with their tags; that old was turned, or sealed
 abbrev pub basis_facts : List Op → Basis → List Fact

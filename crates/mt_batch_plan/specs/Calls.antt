@@ -26,6 +26,7 @@ use Rattle.mt_meta.specs.declared.marker.NewPhase.{NewPhase}
 use Rattle.mt_meta.specs.declared.marker.NewPhase.TheVariants.{Filling, UseNew}
 use Rattle.mt_meta.specs.Markers.{marker_key, old_phase_of, new_phase_of}
 use Rattle.mt_meta.specs.declared.fact.Fact.{Fact}
+use Rattle.mt_meta.specs.ReadRows.{closed_fact}
 use Rattle.mt_batch_plan.specs.declared.basis.Basis.{Basis}
 use Rattle.mt_batch_plan.specs.declared.basis.Basis.TheVariants.{OldRows, OldBirth, Overlay, NewRows, NewBirth}
 use Rattle.mt_batch_plan.specs.declared.place.AfterOld.{AfterOld}
@@ -34,7 +35,7 @@ use Rattle.mt_batch_plan.specs.declared.place.Place.{Place}
 use Rattle.mt_batch_plan.specs.declared.place.Place.TheVariants.{ReadOld, ReadNew, Write}
 use Rattle.mt_batch_plan.specs.declared.call.BatchProgress.{BatchProgress}
 use Rattle.mt_batch_plan.specs.declared.call.BatchProgress.TheVariants.{More, Written, Refused}
-use Rattle.mt_batch_plan.specs.Bases.{table_on, side_of, put_by, marker_put, IsMarked, turned_fact, closed_fact, basis_facts}
+use Rattle.mt_batch_plan.specs.Bases.{table_on, side_of, put_by, marker_put, IsMarked, turned_fact, basis_facts}
 
 -- a batch call: its operations, and where it is
 pub record Call : Type 0 where

@@ -1,12 +1,11 @@
 -- What a batch call prepares with its read, so that it answers a write without memory.
-use Rattle.std.specs.Prelude.{◌≡◌, ℕ, Bool, true, false, List, [], map, filter, length, Option, Some, None, option_map}
+use Rattle.std.specs.Prelude.{◌≡◌, ℕ, Bool, true, false, List, [], map, length, Option, Some, None, option_map}
 use Rattle.std.specs.List.{range_with_len, slice_index_or, slice_set}
 use Rattle.std.specs.List.Sorted.{IsStrictlySortedBy, IsPermutation}
 use Rattle.std.specs.Ordering.{nat_cmp, is_lt}
 use Rattle.std.specs.Cmp.Lexicographic.{slice_cmp}
 use Rattle.mt_model.specs.declared.tag.Tag.{Tag}
 use Rattle.mt_model.specs.declared.value.Prop.{Prop}
-use Rattle.mt_model.specs.Props.{is_visible}
 use Rattle.mt_model.specs.Merge.{merged}
 use Rattle.mt_chain.specs.declared.op.Cond.TheVariants.{Any}
 use Rattle.mt_chain.specs.declared.op.Op.{Op}
@@ -16,7 +15,6 @@ use Rattle.mt_chain.specs.Rows.{key_at}
 use Rattle.mt_chain.specs.Table.{Table}
 use Rattle.mt_chain.specs.Effect.{op_key, told_tag, any_tag}
 use Rattle.mt_batch_plan.specs.declared.basis.Basis.{Basis}
-use Rattle.mt_batch_plan.specs.declared.basis.Sight.{Sight}
 use Rattle.mt_batch_plan.specs.declared.place.Place.{Place}
 use Rattle.mt_batch_plan.specs.declared.place.Place.TheVariants.{ReadOld, ReadNew, Write}
 use Rattle.mt_batch_plan.specs.Bases.{table_on, kept_props, kept_gone}
@@ -24,12 +22,6 @@ use Rattle.mt_batch_plan.specs.Bases.{table_on, kept_props, kept_gone}
 -- the one text is below the other
 abbrev pub is_below : List ℕ → List ℕ → Bool
 is_below a b = is_lt (slice_cmp nat_cmp a b)
-
--- ---- what clients see
-
--- a sight of a row, as a row of a table
-abbrev pub sight_row : Sight → Stored
-sight_row s = record { props = filter is_visible s.props.now; tag = s.tag }
 
 -- ---- the puts
 

@@ -1,22 +1,16 @@
 //! What a batch is judged on, and what it is written over.
 ghost use Rattle.std.specs.Prelude.{◌≡◌, [], Some, IfOk, option_copied, option_map};
-ghost use Rattle.mt_chain.specs.declared.row.Put.TheVariants as put;
-ghost use Rattle.mt_batch_plan.specs.Bases.{kept_row, seen_by, shown_over, stored_in, side_of, kept_props, kept_gone, marker_check, marker_put};
-ghost use Rattle.mt_batch_plan.specs.Plans.{sight_row};
-ghost use Rattle.mt_meta.specs.Markers.{marker_key};
+ghost use Rattle.mt_batch_plan.specs.Bases.{seen_by, stored_in, side_of, kept_props, kept_gone, marker_put};
 ghost use Rattle.mt_meta.specs.Marks.{stored};
-ghost use Rattle.mt_meta.specs.Logical.{shown_as, from_old};
-ghost use Rattle.mt_meta.specs.Steps.{as_row};
+ghost use Rattle.mt_meta.specs.ReadRows.{kept_row, sight_row};
 
 use mt_chain::{Put, Side, StoredRow, StoredRows};
 use mt_meta::{
-    Choice, MARKER_KEY, Mark, NewPhase, Phase, new_marker, old_marker, overlay, seen_tag, stored,
+    Mark, NewPhase, Phase, Sight, bear_marker, check_marker, marker_tag, new_marker, old_marker,
+    sight_of_old, sight_over, stored,
 };
-use mt_model::{NoMemory, Props, Tag, Text};
+use mt_model::{NoMemory, Props};
 use std::alloc::Global;
-
-/// The tag of no row.
-pub(crate) const NO_TAG: Tag = Tag { store: 0, n: 0 };
 
 /// What a batch is judged on, and what its write goes over: rows that were read, the marker's among
 /// them, or none where the partition is born.
@@ -43,66 +37,6 @@ pub enum Basis {
 
     /// Neither store has the partition, old is sealed, and new bears it.
     NewBirth,
-}
-
-/// A row as clients see it: its visible properties, and the tag that they see.
-#[derive(Clone, Copy)]
-pub(crate) struct Sight<'a> {
-    pub props: &'a Props,
-    pub tag: Tag,
-}
-
-/// A row with the tag that clients see of it.
-fn with_tag(row: Option<&StoredRow>, tag: Tag) -> Option<Sight<'_>>
-    ensures { option_map sight_row result ≡ option_map (λ r. as_row (shown_as r.props tag)) (option_copied row.entry) }
-{
-    let row = row?;
-    Some(Sight {
-        props: &row.props,
-        tag,
-    })
-}
-
-/// What clients see of a row of old that no entry of new hides.
-fn sight_of_old(row: Option<&StoredRow>) -> Option<Sight<'_>>
-    ensures { option_map sight_row result ≡ option_map as_row (from_old (option_map kept_row (option_copied row.entry))) }
-{
-    with_tag(row, seen_tag(row?)?)
-}
-
-/// What clients see by a row of old and an entry of new.
-fn sight_over<'a>(
-    phase: NewPhase,
-    row: Option<&'a StoredRow>,
-    entry: Option<&'a StoredRow>,
-) -> Option<Sight<'a>>
-    ensures { option_map sight_row result ≡ option_map as_row (shown_over phase (option_map kept_row (option_copied row.entry)) (option_map kept_row (option_copied entry.entry))) }
-{
-    match overlay(phase, row, entry) {
-        Choice::Nothing => None,
-        Choice::OldRow(tag) => with_tag(row, tag),
-        Choice::NewRow(tag) => with_tag(entry, tag),
-    }
-}
-
-/// The put that checks the tag of the marker among these rows.
-fn marker_check(alloc: Global, rows: &StoredRows) -> Result<Put, NoMemory>
-    ensures { IfOk result (λ put. put ≡ marker_check rows.now) }
-{
-    let rk = Text::of(alloc, MARKER_KEY)?;
-    let tag = match rows.get(MARKER_KEY) {
-        Some(marker) => marker.tag,
-        None => NO_TAG,
-    };
-    Ok(Put::Check { rk, tag })
-}
-
-/// The put that makes a partition's marker.
-fn marker_birth(alloc: Global, props: Props) -> Result<Put, NoMemory>
-    ensures { IfOk result (λ p. p ≡ put.Insert marker_key props) }
-{
-    let rk = Text::of(alloc, MARKER_KEY)?;
-    Ok(Put::Insert { rk, props })
 }
 
 /// What new keeps of a row that a client deleted.
@@ -179,12 +113,12 @@ impl Basis {
         ensures { IfOk result (λ put. put ≡ marker_put self.now) }
     {
         match self {
-            Basis::OldRows { rows } => marker_check(alloc, rows),
+            Basis::OldRows { rows } => check_marker(alloc, marker_tag(rows)),
             Basis::Overlay { entries, .. } | Basis::NewRows { entries } => {
-                marker_check(alloc, entries)
+                check_marker(alloc, marker_tag(entries))
             }
-            Basis::OldBirth => marker_birth(alloc, old_marker(alloc, Phase::UseOld)?),
-            Basis::NewBirth => marker_birth(alloc, new_marker(alloc, NewPhase::UseNew)?),
+            Basis::OldBirth => bear_marker(alloc, old_marker(alloc, Phase::UseOld)?),
+            Basis::NewBirth => bear_marker(alloc, new_marker(alloc, NewPhase::UseNew)?),
         }
     }
 }

@@ -3,10 +3,11 @@ ghost use Rattle.std.specs.Prelude.{◌≡◌, ◌<◌, ◌^◌, length, option_
 ghost use Rattle.mt_chain.specs.Effect.{cause_on};
 ghost use Rattle.mt_chain.specs.Batch.{refusal_of};
 ghost use Rattle.mt_batch_plan.specs.Bases.{table_on};
-ghost use Rattle.mt_batch_plan.specs.Plans.{sight_row};
+ghost use Rattle.mt_meta.specs.ReadRows.{sight_row};
 
-use crate::basis::{Basis, Sight};
+use crate::basis::Basis;
 use mt_chain::{Cause, Op, Refusal};
+use mt_meta::Sight;
 
 /// Why an operation is refused on what clients see at its key.
 fn cause_of(op: &Op, seen: Option<Sight<'_>>) -> Option<Cause>

@@ -10,12 +10,14 @@ ghost use Rattle.mt_chain.specs.Batch.{refusal_of};
 ghost use Rattle.mt_rules.specs.Batches.{IsBatch};
 ghost use Rattle.mt_batch_plan.specs.Bases.{table_on};
 ghost use Rattle.mt_batch_plan.specs.Calls.{AnswersTags};
-ghost use Rattle.mt_batch_plan.specs.Plans.{IsOrder, IsPlan, sight_row, is_below, is_delete, filled, op_or};
+ghost use Rattle.mt_meta.specs.ReadRows.{sight_row};
+ghost use Rattle.mt_batch_plan.specs.Plans.{IsOrder, IsPlan, is_below, is_delete, filled, op_or};
 ghost use Rattle.mt_batch_plan.specs.Verdicts.{IsJudged};
 
-use crate::basis::{Basis, NO_TAG, Sight};
+use crate::basis::Basis;
 use crate::judge::refusal_on;
 use mt_chain::{Op, Refusal, Tags};
+use mt_meta::{NO_TAG, Sight};
 use mt_model::{NoMemory, Tag};
 use std::alloc::Global;
 use std::cmp::Ordering;

@@ -5,13 +5,15 @@ ghost use Rattle.mt_model.specs.Merge.{merged};
 ghost use Rattle.mt_chain.specs.Asks.{CanAsk};
 ghost use Rattle.mt_chain.specs.Effect.{op_key, cause_on};
 ghost use Rattle.mt_chain.specs.Batch.{refusal_of};
+ghost use Rattle.mt_meta.specs.ReadRows.{kept_row, sight_row};
 ghost use Rattle.mt_rules.specs.Batches.{IsBatch, partition_of};
-ghost use Rattle.mt_batch_plan.specs.Bases.{kept_row, kept_props, seen_by, table_on, put_of, put_by, marker_put};
+ghost use Rattle.mt_batch_plan.specs.Bases.{kept_props, seen_by, table_on, put_of, put_by, marker_put};
 ghost use Rattle.mt_batch_plan.specs.Calls.{writes};
-ghost use Rattle.mt_batch_plan.specs.Plans.{IsOrder, sight_row, as_left, left_props, kept_left, merged_on, picked};
+ghost use Rattle.mt_batch_plan.specs.Plans.{IsOrder, as_left, left_props, kept_left, merged_on, picked};
 
-use crate::basis::{Basis, NO_TAG, Sight};
+use crate::basis::Basis;
 use mt_chain::{Ask, Op, Put, Puts, StoreAsk, StoredRow};
+use mt_meta::{NO_TAG, Sight};
 use mt_model::{NoMemory, Props, PropsFault, Text};
 use mt_rules::Batch;
 use std::alloc::Global;

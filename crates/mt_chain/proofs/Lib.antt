@@ -1,4 +1,7 @@
 pub mod KeyLaws
+pub mod TextOrder
+pub mod TwoLists
+pub mod RangeRows
 pub mod Searches
 pub mod OneList
 pub mod RowLaws

@@ -1,9 +1,9 @@
 -- Tests of keys that pass below a place and fail from it on.
 use Rattle.std.proofs.Common.{◌≡◌, ◌⊎◌, ℕ, ◌≤◌, Bool, true, false, not, ◌&&◌, ◌||◌, List, refl, sym, ap, ◌∙◌, subst, inl, inr, arith, bytes_eq, Some, None, Option, Less, Equal, Greater, Ordering}
 use Rattle.std.proofs.lemmas.Bool.{and_parts, or_cases, not-true}
-use Rattle.std.specs.Ordering.{nat_cmp, is_lt, is_le, is_eq, ordering_then, ordering_index, ordering_reverse}
+use Rattle.std.specs.Ordering.{is_lt, is_le, is_eq, ordering_then, ordering_index, ordering_reverse}
 use Rattle.std.specs.Cmp.{alike_right}
-use Rattle.std.specs.Cmp.Lexicographic.{slice_cmp, nat_list_cmp_total, nat_list_eq_equiv, texts_ties}
+use Rattle.std.specs.Cmp.Lexicographic.{nat_list_cmp_total, nat_list_eq_equiv, texts_ties}
 use Rattle.mt_model.specs.declared.key.Key.{Key}
 use Rattle.mt_model.specs.Key.{key_cmp}
 use Rattle.mt_chain.specs.declared.query.RkFrom.{RkFrom}
@@ -14,10 +14,8 @@ use Rattle.mt_chain.specs.declared.query.Range.{Range}
 use Rattle.mt_chain.specs.Rows.{is_from, is_upto, is_within, is_past}
 use Rattle.mt_chain.specs.Places.{is_before, is_not_past, is_passed}
 use Rattle.mt_chain.proofs.KeyLaws.{key_total, text_true}
+use Rattle.mt_chain.proofs.TextOrder.{text_cmp, or_left, or_right}
 use Rattle.mt_chain.proofs.Searches.{climbs}
-
-abbrev text_cmp : List ℕ → List ℕ → Ordering
-text_cmp = slice_cmp nat_cmp
 
 pub lt_less : (o : Ordering) → is_lt o ≡ true → o ≡ Less
 lt_less Less e = refl
@@ -91,13 +89,6 @@ key_less x y h = go (text_cmp x.pk y.pk) refl h where
   go Less e h = inl e
   go Equal e h = inr (text_true x.pk y.pk (texts_ties x.pk y.pk ∙ ap is_eq e), h)
   go Greater e h = absurd cc
-
-or_left : (a b : Bool) → a ≡ true → (a || b) ≡ true
-or_left a b e = ap (λ t. t || b) e
-
-or_right : (a b : Bool) → b ≡ true → (a || b) ≡ true
-or_right true b e = refl
-or_right false b e = e
 
 -- the key lies before a partition, or in it where the test passes
 abbrev in_order : List ℕ → (List ℕ → Bool) → Key → Bool

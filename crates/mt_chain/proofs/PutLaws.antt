@@ -24,7 +24,7 @@ row_after store n (put ∷ puts) q row = row_after store (counter_after n put) p
 in_pk : (pk rk q : List ℕ) (x y : Option Stored) → cond (bytes_eq pk pk && bytes_eq rk q) x y ≡ cond (bytes_eq rk q) x y
 in_pk pk rk q x y = ap (λ t. cond (t && bytes_eq rk q) x y) (text_same pk)
 
-same_if : {A : Type 0} (b : Bool) (x : A) → x ≡ cond b x x
+pub same_if : {A : Type 0} (b : Bool) (x : A) → x ≡ cond b x x
 same_if true x = refl
 same_if false x = refl
 

@@ -1,4 +1,5 @@
 pub mod Rows
+pub mod TwoLists
 pub mod Puts
 pub mod StoreCall
 pub mod Store

@@ -1,5 +1,5 @@
 -- The rows of a store: a list of entries in the order of their keys.
-use Rattle.std.specs.Prelude.{ℕ, Bool, true, false, not, ◌&&◌, nat_lt, bytes_eq, List, map, filter, take, length, Option, None, Some, option_map}
+use Rattle.std.specs.Prelude.{ℕ, Bool, true, false, not, ◌&&◌, nat_lt, bytes_eq, List, [], ◌∷◌, map, filter, take, length, Option, None, Some, option_map, if◌then◌else◌}
 use Rattle.std.specs.List.{list_any, filter_map, find as first_where}
 use Rattle.std.specs.List.Sorted.{IsStrictlySortedBy}
 use Rattle.std.specs.Ordering.{nat_cmp, is_lt, is_le, eq_by_cmp}
@@ -46,6 +46,16 @@ RisingRows rows = IsStrictlySortedBy (slice_cmp nat_cmp) (map (λ s. s.rk) rows)
 -- the row of that row key
 abbrev pub row_in : List StoredRow → List ℕ → Option StoredRow
 row_in rows rk = first_where (λ (r : StoredRow). bytes_eq rk r.rk) rows
+
+-- the row key of the last of the rows
+abbrev pub last_key : List StoredRow → Option (List ℕ)
+last_key [] = None
+last_key (r ∷ []) = Some r.rk
+last_key (r ∷ s ∷ rows) = last_key (s ∷ rows)
+
+-- where rows that were read end: at the last row key where their range has more, else nowhere
+abbrev pub read_end : List StoredRow → Bool → Option (List ℕ)
+read_end rows more = if more then last_key rows else None
 
 -- some row has that partition key
 abbrev pub has_partition : Rows → List ℕ → Bool

@@ -1,7 +1,7 @@
 ghost use Rattle.std.specs.Prelude.{◌≡◌, option_copied};
 ghost use Rattle.std.specs.Ordering.{nat_cmp};
 ghost use Rattle.std.specs.Cmp.Lexicographic.{slice_cmp};
-ghost use Rattle.mt_chain.specs.Rows.{RisingRows, row_in};
+ghost use Rattle.mt_chain.specs.Rows.{RisingRows, last_key, row_in};
 ghost use Rattle.mt_chain.specs.Places.{EndsBy};
 
 use mt_model::{Props, Tag, Text};
@@ -146,6 +146,16 @@ fn found_in<'a>(rows: &'a [StoredRow], rk: &str) -> Option<&'a StoredRow>
     }
 }
 
+/// The row key of the last of the rows.
+fn last_in(rows: &[StoredRow]) -> Option<&Text>
+    ensures { option_copied result ≡ last_key rows.now }
+{
+    match rows.last() {
+        None => None,
+        Some(row) => Some(&row.rk),
+    }
+}
+
 impl StoredRows {
     /// These rows, whose row keys rise.
     pub fn of(items: Vec<StoredRow>) -> StoredRows
@@ -169,6 +179,13 @@ impl StoredRows {
         ensures rising { RisingRows self }
     {
         self.items
+    }
+
+    /// The row key of the last of the rows.
+    pub fn last_key(&self) -> Option<&Text>
+        ensures { option_copied result ≡ last_key self.now }
+    {
+        last_in(&self.items)
     }
 
     /// The row of a row key, found by binary search.

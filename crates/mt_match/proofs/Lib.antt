@@ -1,3 +1,4 @@
 pub mod Texts
 pub mod Conjuncts
 pub mod Seen
+pub mod Ends

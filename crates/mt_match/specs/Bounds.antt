@@ -81,6 +81,25 @@ abbrev pub IsLeast : Option (List ℕ) → List (List ℕ) → Type 0
 IsLeast None texts = texts ≡ []
 IsLeast (Some text) texts = IsLeastOf text texts
 
+-- ---- those texts themselves
+
+-- the greatest of the texts, or the empty text where there is none
+abbrev pub greatest : List (List ℕ) → List ℕ
+greatest [] = []
+greatest (text ∷ texts) = if is_le (slice_cmp nat_cmp text (greatest texts)) then greatest texts else text
+
+-- the least of a text and others
+abbrev pub least_of : List ℕ → List (List ℕ) → List ℕ
+least_of text [] = text
+least_of text (other ∷ texts) = if is_le (slice_cmp nat_cmp text (least_of other texts)) then text else least_of other texts
+
+-- the least of the texts, or none where there is none
+abbrev pub least : List (List ℕ) → Option (List ℕ)
+least [] = None
+least (text ∷ texts) = Some (least_of text texts)
+
+-- ---- the bounds of a filter
+
 -- the narrowest bounds that the outermost conjuncts of the filter give
 pub record IsNarrowest (t : Tree) (b : Bounds) : Type 0 where
   pub pk_low : IsLowEnd b.pk_low (low_texts Partition t)

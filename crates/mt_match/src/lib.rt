@@ -6,5 +6,5 @@ mod matching;
 mod partition;
 
 pub use bounds::{Bounds, key_bounds};
-pub use matching::matches;
+pub use matching::{matches, matches_row};
 pub use partition::atomic_partition;

@@ -64,26 +64,60 @@ fn visible_value<'a>(props: &'a Props, name: &Name) -> Option<&'a Value>
 }
 
 /// The order of a row's field and a literal, if the field is there and of the literal's type.
-fn field_compared(field: &Field, literal: &Value, entity: &Entity) -> Option<Ordering>
+fn field_compared(
+    field: &Field,
+    literal: &Value,
+    pk: &Text,
+    rk: &Text,
+    props: &Props,
+) -> Option<Ordering>
     ensures { result ≡ option_and_then (λ value. compared value literal.now)
-        (field_value field.now entity.now.key entity.now.props) }
+        (field_value field.now (record { pk = pk.now; rk = rk.now }) props.now) }
 {
     match field {
-        Field::PartitionKey => text_compared(&entity.key.pk, literal),
-        Field::RowKey => text_compared(&entity.key.rk, literal),
-        Field::Property(name) => match visible_value(&entity.props, name) {
+        Field::PartitionKey => text_compared(pk, literal),
+        Field::RowKey => text_compared(rk, literal),
+        Field::Property(name) => match visible_value(props, name) {
             Some(value) => compared(value, literal),
             None => None,
         },
     }
 }
 
-fn passes(field: &Field, compare: Compare, literal: &Value, entity: &Entity) -> bool
-    ensures { result ≡ passes field.now compare literal.now entity.now.key entity.now.props }
+fn passes(
+    field: &Field,
+    compare: Compare,
+    literal: &Value,
+    pk: &Text,
+    rk: &Text,
+    props: &Props,
+) -> bool
+    ensures { result ≡ passes field.now compare literal.now (record { pk = pk.now; rk = rk.now }) props.now }
 {
-    match field_compared(field, literal, entity) {
+    match field_compared(field, literal, pk, rk, props) {
         Some(order) => holds(compare, order),
         None => false,
+    }
+}
+
+/// Whether a row of that key and of those properties matches the filter, as `matches` says it of an
+/// entity. Nothing is copied.
+pub fn matches_row(filter: &Filter, pk: &Text, rk: &Text, props: &Props) -> bool
+    ensures { result ≡ matches (tree_of filter.now) (record { pk = pk.now; rk = rk.now }) props.now }
+{
+    match filter {
+        Filter::Test {
+            field,
+            compare,
+            literal,
+        } => passes(field, *compare, literal, pk, rk, props),
+        Filter::Not(inner) => !matches_row(inner, pk, rk, props),
+        Filter::And(left, right) => {
+            matches_row(left, pk, rk, props) && matches_row(right, pk, rk, props)
+        }
+        Filter::Or(left, right) => {
+            matches_row(left, pk, rk, props) || matches_row(right, pk, rk, props)
+        }
     }
 }
 
@@ -94,14 +128,5 @@ fn passes(field: &Field, compare: Compare, literal: &Value, entity: &Entity) -> 
 pub fn matches(filter: &Filter, entity: &Entity) -> bool
     ensures { result ≡ matches (tree_of filter.now) entity.now.key entity.now.props }
 {
-    match filter {
-        Filter::Test {
-            field,
-            compare,
-            literal,
-        } => passes(field, *compare, literal, entity),
-        Filter::Not(inner) => !matches(inner, entity),
-        Filter::And(left, right) => matches(left, entity) && matches(right, entity),
-        Filter::Or(left, right) => matches(left, entity) || matches(right, entity),
-    }
+    matches_row(filter, &entity.key.pk, &entity.key.rk, &entity.props)
 }

@@ -233,8 +233,3 @@ next_some at rows p d h cut l = (past, there, least) where
           | inr ne ↦ later other found.0 e (omega (arith, after, ne)) found.1
         ]
       ]
-
--- one name rises
-pub one_rising : (name : List ℕ) → IsStrictlySortedBy text_cmp (name ∷ [])
-unfolding IsStrictlySortedBy
-one_rising name = (tt, tt)

@@ -8,4 +8,7 @@ pub mod StorePuts
 pub mod Parts
 pub mod PairLaws
 pub mod Actors
+pub mod FactLists
+pub mod ByMarkers
+pub mod ReadLaws
 pub mod Theorems

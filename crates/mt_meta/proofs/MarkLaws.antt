@@ -91,7 +91,7 @@ visible_once : (b : Bool) (p : Prop) (qs rs : List Prop) → is_visible p ≡ b 
 visible_once true p qs rs e h = rw (e, h) refl
 visible_once false p qs rs e h = h
 
-visible_twice : (ps : List Prop) → filter is_visible (filter is_visible ps) ≡ filter is_visible ps
+pub visible_twice : (ps : List Prop) → filter is_visible (filter is_visible ps) ≡ filter is_visible ps
 visible_twice [] = refl
 visible_twice (p ∷ ps) = visible_once (is_visible p) p (filter is_visible ps) (filter is_visible ps) refl (visible_twice ps)
 

@@ -185,7 +185,7 @@ touched P store n (put ∷ puts) q row h =
 
 -- ---- conditions that held
 
-same_tag : (a b : Tag) → is_same_tag a b ≡ true → b ≡ a
+pub same_tag : (a b : Tag) → is_same_tag a b ≡ true → b ≡ a
 same_tag a b h =
     let both = and_parts (a.store == b.store) (a.n == b.n) h in
     let store_is : b.store ≡ a.store = (let e = both.0 in grind (arith, nat_tests)) in
@@ -199,7 +199,8 @@ pub record IsSeen (x : Option Stored) (ps : List Prop) (t : Tag) : Type 0 where
   pub props : row.props ≡ ps
   pub tag : row.tag ≡ t
 
-tagged : (x : Option Stored) (tag : Tag) → has_tag tag x ≡ true → (r : Stored) × (x ≡ Some r) × (r.tag ≡ tag)
+-- a row is there with that tag
+pub tagged : (x : Option Stored) (tag : Tag) → has_tag tag x ≡ true → (r : Stored) × (x ≡ Some r) × (r.tag ≡ tag)
 tagged None tag h = absurd cc
 tagged (Some r) tag h = (r, refl, same_tag tag r.tag h)
 

@@ -7,3 +7,4 @@ pub mod Sound
 pub mod Modes
 pub mod Facts
 pub mod Steps
+pub mod ReadRows

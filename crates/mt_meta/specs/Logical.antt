@@ -118,6 +118,11 @@ abbrev pub from_both : Option Stored → Option Stored → Option Shown
 from_both row None = from_old row
 from_both row (Some entry) = filling_by (mark_of entry.props) entry (from_old row)
 
+-- while new fills, an entry over old's row; once new is used alone, the entry
+abbrev pub shown_over : NewPhase → Option Stored → Option Stored → Option Shown
+shown_over Filling row entry = from_both row entry
+shown_over UseNew row entry = from_new entry
+
 -- the row that the overlay chooses, as clients see it
 abbrev pub chosen : Choice → Option Stored → Option Stored → Option Shown
 chosen Nothing row entry = None

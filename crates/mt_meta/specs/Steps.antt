@@ -43,6 +43,21 @@ with_old p c = record { old_number = p.old_number; new_number = p.new_number; ol
 abbrev pub with_new : Pair → Contents → Pair
 with_new p c = record { old_number = p.old_number; new_number = p.new_number; old = p.old; new = c }
 
+-- the contents of one of the two stores
+abbrev pub contents_of : Pair → Side → Contents
+contents_of p Old = p.old
+contents_of p New = p.new
+
+-- its number
+abbrev pub number_of : Pair → Side → ℕ
+number_of p Old = p.old_number
+number_of p New = p.new_number
+
+-- the pair with these contents of it
+abbrev pub with_store : Pair → Side → Contents → Pair
+with_store p Old c = with_old p c
+with_store p New c = with_new p c
+
 -- what a reply of that one of two stores says of them before and after the call; the other store stays
 abbrev pub MeansOn : Side → Ask → StoreReply → Pair → Pair → Type 0
 MeansOn Old a r p q = Means p.old_number a r p.old q.old × (q ≡ with_old p q.old)

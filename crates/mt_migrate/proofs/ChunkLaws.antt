@@ -38,8 +38,10 @@ use Rattle.mt_migrate.specs.declared.chunk.Want.TheVariants.{Nothing, Insert, Re
 use Rattle.mt_migrate.specs.Chunks.{are_alike, insert_want, replace_want, entry_want, want_of, is_of_chunk, want_at, is_want, wants_put, waiting, props_of, put_by, put_at, KeepsTag, IsWanted, ArePuts}
 use Rattle.mt_migrate.specs.Moves.{past}
 use Rattle.mt_migrate.specs.Known.{done_keys}
-use Rattle.mt_migrate.proofs.Merging.{text_cmp, or_left, or_right, has, not_there, nothing_wanted}
-use Rattle.mt_migrate.proofs.MarkerChanges.{tag_same}
+use Rattle.mt_chain.proofs.TextOrder.{text_cmp, or_left, or_right}
+use Rattle.mt_chain.proofs.TwoLists.{has, not_there}
+use Rattle.mt_migrate.proofs.Merging.{nothing_wanted}
+use Rattle.mt_meta.proofs.StorePuts.{same_tag}
 use Rattle.mt_migrate.proofs.CopyChanges.{IsCopyAt, KnowsCopy, CopyPut, copy_tag}
 
 -- ---- the tag that clients see
@@ -122,7 +124,7 @@ copy_exact rk r e kept t seen h =
     let parts = both_true (are_alike r.props e.props) (is_same_tag t kept) (Replace t e.tag) refl (ap (λ x. is_want (replace_want (shown rk r) x (shown rk e) kept)) (sym seen) ∙ h) in
     shows_it r t seen
     ∙ ap (λ (ps : List Prop). Some (record { props = ps; tag = t })) (alike_same r.props e.props parts.0)
-    ∙ ap (λ (x : Tag). Some (shown_as e.props x)) (sym (tag_same t kept parts.1))
+    ∙ ap (λ (x : Tag). Some (shown_as e.props x)) (sym (same_tag t kept parts.1))
 
 entry_exact : (store : ℕ) (rk : List ℕ) (row : Option Stored) (e : Stored) → IfSome row (λ r. IsOldRow store r.props) → (m : Option Mark) → mark_of e.props ≡ m → is_want (entry_want (option_map (shown rk) row) (shown rk e) m) ≡ false
     → (kept : Tag) → mark_of e.props ≡ Some (Copy kept) → from_old row ≡ Some (shown_as e.props kept)

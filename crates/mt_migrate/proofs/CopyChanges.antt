@@ -26,9 +26,9 @@ use Rattle.mt_meta.specs.Steps.{with_new}
 use Rattle.mt_meta.proofs.Rules.{to_modes}
 use Rattle.mt_meta.proofs.ShownLaws.{logical_in}
 use Rattle.mt_meta.proofs.ModeLaws.{filling_ranks}
-use Rattle.mt_meta.proofs.StorePuts.{moves_puts, Leaves, Touched, touched, seen, no_row, the_row}
+use Rattle.mt_meta.proofs.StorePuts.{tagged, moves_puts, Leaves, Touched, touched, seen, no_row, the_row}
 use Rattle.mt_meta.proofs.Parts.{FormsAt, KeptAt, kept_on, new_step}
-use Rattle.mt_migrate.proofs.MarkerChanges.{Shows, same_at, tagged, copy_through}
+use Rattle.mt_migrate.proofs.MarkerChanges.{Shows, same_at, copy_through}
 
 -- ---- puts of copies
 

@@ -1,22 +1,24 @@
 -- What a migrator knows: how its facts lie apart, how they last, and what each of its reads tells.
-use Rattle.std.proofs.Common.{◌≡◌, ◌≢◌, ◌⊎◌, ℕ, ◌<◌, Bool, true, false, cond, ◌&&◌, List, [], ◌∷◌, ◌++◌, take, length, nat_lt, Option, Some, None, refl, sym, ap, subst, ◌∙◌, arith, inl, inr, bytes_eq, Less, Equal, Greater, Ordering}
+use Rattle.std.proofs.Common.{◌≡◌, ◌≢◌, ◌⊎◌, ℕ, ◌<◌, Bool, true, false, cond, ◌&&◌, List, [], ◌∷◌, take, length, nat_lt, Option, Some, None, refl, sym, ap, subst, ◌∙◌, arith, inl, inr, bytes_eq, Less, Equal, Greater, Ordering}
 use Rattle.std.specs.Prelude.{option_map, is_some, IfSome}
-use Rattle.std.specs.List.{AllByRecursion, cons_option}
+use Rattle.std.specs.List.{AllByRecursion}
 use Rattle.std.specs.Ordering.{nat_cmp, is_lt, is_le, is_eq}
 use Rattle.std.specs.Cmp.Lexicographic.{slice_cmp, texts_ties}
 use Rattle.mt_model.specs.declared.tag.Tag.{Tag}
 use Rattle.mt_model.specs.declared.value.Prop.{Prop}
 use Rattle.mt_model.specs.Key.{key_fault}
-use Rattle.mt_chain.specs.declared.ask.Side.TheVariants.{Old, New}
+use Rattle.mt_chain.specs.declared.ask.Side.TheVariants.{New}
 use Rattle.mt_chain.specs.declared.query.PkFrom.{PkFrom}
 use Rattle.mt_chain.specs.declared.query.PkFrom.TheVariants as start
 use Rattle.mt_chain.specs.declared.query.Found.{Found}
 use Rattle.mt_chain.specs.declared.row.Stored.{Stored}
 use Rattle.mt_chain.specs.declared.row.StoredRow.{StoredRow}
-use Rattle.mt_chain.specs.Rows.{Rows, row_at, row_in, shown, named_rows, has_partition, are_rising, is_from, is_upto, is_past, rows_within}
+use Rattle.mt_chain.specs.Rows.{Rows, row_at, row_in, shown, has_partition, are_rising, is_from, is_upto, is_past, rows_within}
 use Rattle.mt_chain.specs.StoreCall.{Contents, IsNext}
 use Rattle.mt_chain.proofs.KeyLaws.{text_true}
 use Rattle.mt_chain.proofs.RowLaws.{no_partition}
+use Rattle.mt_chain.proofs.TextOrder.{le_trans, not_le}
+use Rattle.mt_chain.proofs.RangeRows.{in_whole, rising_within, up_to_end, IsRowOf}
 use Rattle.mt_meta.specs.declared.marker.Phase.{Phase}
 use Rattle.mt_meta.specs.declared.marker.Phase.TheVariants.{UseOld, PreferOld, PreferNew}
 use Rattle.mt_meta.specs.declared.marker.NewPhase.{NewPhase}
@@ -24,21 +26,17 @@ use Rattle.mt_meta.specs.declared.marker.NewPhase.TheVariants.{Filling, UseNew}
 use Rattle.mt_meta.specs.declared.mark.Mark.TheVariants.{Copy}
 use Rattle.mt_meta.specs.Markers.{marker_key, marker_props, old_kind, new_kind, old_phase_of, new_phase_of}
 use Rattle.mt_meta.specs.Marks.{mark_of, seen_tag}
-use Rattle.mt_meta.specs.Logical.{Pair, old_at, new_at, old_state_at, new_state_at}
+use Rattle.mt_meta.specs.Logical.{Pair, old_at, new_at, new_state_at}
 use Rattle.mt_meta.specs.Sound.{IsOldMarker, IsKept, AreTags, IsSound}
-use Rattle.mt_meta.specs.Modes.{Mode, Empty, AtOld, Prepared, Copying, Overlaid, Settled, NewOnly, Broken, mode}
 use Rattle.mt_meta.specs.declared.fact.Keys.{Keys}
 use Rattle.mt_meta.specs.declared.fact.Keys.TheVariants as keys
 use Rattle.mt_meta.specs.declared.fact.Fact.{Fact}
 use Rattle.mt_meta.specs.declared.fact.Fact.TheVariants as fact
-use Rattle.mt_meta.specs.Facts.{is_prefer_new, is_marked, is_use_new, KnowsRow, KnowsKept, KnowsTurned, KnowsEpoch, KnowsSwept, Holds, Apart, ApartFrom, IsPlain, AllPlain, Grows}
+use Rattle.mt_meta.specs.Facts.{is_use_new, KnowsRow, KnowsKept, KnowsTurned, KnowsEpoch, KnowsSwept, Holds, Apart, IsPlain, AllPlain}
 use Rattle.mt_meta.specs.Steps.{AllHold, row_facts}
 use Rattle.std.proofs.lemmas.Bool.{lt-ltb}
 use Rattle.mt_meta.proofs.Rules.{old_read, new_read, key_cases}
-use Rattle.mt_meta.proofs.ModeLaws.{IsWhole, old_in, new_in, says, whole}
-use Rattle.mt_meta.proofs.Growth.{fact_kept}
-use Rattle.mt_meta.proofs.Actors.{plain_left}
-use Rattle.mt_meta.proofs.StorePuts.{the_row}
+use Rattle.mt_meta.proofs.ReadLaws.{row_known}
 use Rattle.mt_migrate.specs.declared.state.Walk.{Walk}
 use Rattle.mt_migrate.specs.declared.state.Walk.TheVariants.{BeforeSeal, AfterSeal}
 use Rattle.mt_migrate.specs.declared.state.Pass.{Pass}
@@ -48,35 +46,9 @@ use Rattle.mt_migrate.specs.declared.state.Copying.{Copying as CopyingPart}
 use Rattle.mt_migrate.specs.Chunks.{end_of, lesser}
 use Rattle.mt_migrate.specs.Moves.{past, next_rows, reading_of}
 use Rattle.mt_migrate.specs.Known.{behind, walk_facts, old_known, rows_known, epoch_known, kept_fact, kept_facts}
-use Rattle.mt_migrate.proofs.Merging.{le_trans, not_le}
-use Rattle.mt_migrate.proofs.ReadFacts.{in_whole, rising_within, up_to_end, IsRowOf}
 use Rattle.mt_migrate.proofs.ChunkLaws.{seen_is, KeptRow, KnownEntry}
 
 -- ---- lists of facts
-
-pub hold_more : (p : Pair) (retired : Bool) (fs gs : List Fact) → AllHold p retired fs → AllHold p retired gs → AllHold p retired (fs ++ gs)
-hold_more p retired [] gs h g = g
-hold_more p retired (f ∷ fs) gs h g = (h.0, hold_more p retired fs gs h.1 g)
-
-pub hold_first : (p : Pair) (retired : Bool) (fs gs : List Fact) → AllHold p retired (fs ++ gs) → AllHold p retired fs
-hold_first p retired [] gs h = tt
-hold_first p retired (f ∷ fs) gs h = (h.0, hold_first p retired fs gs h.1)
-
-pub hold_rest : (p : Pair) (retired : Bool) (fs gs : List Fact) → AllHold p retired (fs ++ gs) → AllHold p retired gs
-hold_rest p retired [] gs h = h
-hold_rest p retired (f ∷ fs) gs h = hold_rest p retired fs gs h.1
-
-pub plain_more : (fs gs : List Fact) → AllPlain fs → AllPlain gs → AllPlain (fs ++ gs)
-plain_more [] gs h g = g
-plain_more (f ∷ fs) gs h g = (h.0, plain_more fs gs h.1 g)
-
-pub apart_left : (f : Fact) (own : List Fact) → IsPlain f → ApartFrom f own
-apart_left f [] h = tt
-apart_left f (g ∷ own) h = (plain_left f g h, apart_left f own h)
-
-pub plain_kept : (own : List Fact) (p q : Pair) (retired : Bool) → IsSound p → IsSound q → Grows own p q → (fs : List Fact) → AllPlain fs → AllHold p retired fs → AllHold q retired fs
-plain_kept own p q retired s t g [] plain h = tt
-plain_kept own p q retired s t g (f ∷ fs) plain h = (fact_kept own p q retired retired s t g (λ x. x) f h.0 (apart_left f own plain.0), plain_kept own p q retired s t g fs plain.1 h.1)
 
 pub behind_plain : (walk : Walk) (place : PkFrom) → AllPlain (behind walk place)
 behind_plain BeforeSeal place = tt
@@ -148,26 +120,8 @@ apart_known f copying Second part part' h = epoch_apart f copying.part.pk copyin
 
 -- ---- what a read of a marker tells
 
-pub row_known : (store : ℕ) (c : Contents) (pk rk : List ℕ) (r : Stored) → AreTags store c → row_at c.rows pk rk ≡ Some r → KnowsRow c pk rk r.props r.tag
-row_known store c pk rk r tags is = record {
-  past = (tags.range pk rk r is).1;
-  same = λ w there e. ap (λ (x : Stored). x.props) (the_row w r (sym there ∙ is));
-}
-
 pub known_as : (store : ℕ) (c : Contents) (pk rk : List ℕ) (r : Stored) (ps : List Prop) → AreTags store c → row_at c.rows pk rk ≡ Some r → r.props ≡ ps → KnowsRow c pk rk ps r.tag
 known_as store c pk rk r ps tags is e = subst (λ x. KnowsRow c pk rk x r.tag) e (row_known store c pk rk r tags is)
-
-pub marker_read : (rows : Rows) (pk : List ℕ) → row_in (named_rows rows pk (marker_key ∷ [])) marker_key ≡ option_map (shown marker_key) (row_at rows pk marker_key)
-marker_read rows pk = go (row_at rows pk marker_key) where
-  go : (o : Option Stored) → row_in (cons_option (option_map (shown marker_key) o) []) marker_key ≡ option_map (shown marker_key) o
-  go None = refl
-  go (Some r) = refl
-
-pub named_known : (p : Pair) (retired : Bool) (pk : List ℕ) → IsSound p → AllHold p retired (row_facts Old pk (named_rows p.old.rows pk (marker_key ∷ [])))
-named_known p retired pk s = go (old_at p pk marker_key) refl where
-  go : (o : Option Stored) → old_at p pk marker_key ≡ o → AllHold p retired (row_facts Old pk (cons_option (option_map (shown marker_key) o) []))
-  go None is = tt
-  go (Some r) is = (row_known p.old_number p.old pk marker_key r s.tags.0 is, tt)
 
 -- the marker of an earlier migration
 later_read : (store : ℕ) → 0 < store → old_phase_of store (marker_props (new_kind UseNew)) ≡ Some UseOld
@@ -190,24 +144,6 @@ pub filling_props : (p : Pair) (pk : List ℕ) (r : Stored) → IsSound p → ne
 filling_props p pk r s is reads = (let h = (s.forms.1.markers pk r is).0 in let same : h.0 ≡ Filling = one h.0 Filling (sym (ap new_phase_of h.1 ∙ new_read h.0) ∙ reads) in h.1 ∙ ap (λ f. marker_props (new_kind f)) same) where
   one : (a b : NewPhase) → Some a ≡ Some b → a ≡ b
   one a b e = cc
-
-pub turned_marked : (m : Mode) → IsWhole m → is_prefer_new (old_in m) ≡ true → is_marked (new_in m) ≡ true
-turned_marked Empty w h = absurd cc
-turned_marked AtOld w h = absurd cc
-turned_marked Prepared w h = absurd cc
-turned_marked Copying w h = absurd cc
-turned_marked Overlaid w h = refl
-turned_marked Settled w h = refl
-turned_marked NewOnly w h = absurd cc
-turned_marked Broken w h = absurd w
-
--- old was seen turned
-pub turned_known : (p : Pair) (pk : List ℕ) → IsSound p → is_prefer_new (old_state_at p pk) ≡ true → KnowsTurned p pk keys.None []
-turned_known p pk s h = record {
-  marked = ap is_marked (says p s pk).new ∙ turned_marked (mode p pk) (whole p s pk) (ap is_prefer_new (sym (says p s pk).old) ∙ h);
-  turned = λ f. h;
-  rows = λ f rk other x. absurd x;
-}
 
 pub less_rows : (p : Pair) (pk : List ℕ) (part : Keys) (rows : List StoredRow) → KnowsTurned p pk part rows → KnowsTurned p pk keys.None []
 less_rows p pk part rows h = record { marked = h.marked; turned = h.turned; rows = λ f rk other x. absurd x }
@@ -256,8 +192,8 @@ further p retired part = go part.walk where
 -- ---- what a read of rows tells
 
 -- a row of old may be copied with the tag that clients see
-pub kept_row : (p : Pair) (pk rk : List ℕ) (r : Stored) (t : Tag) → IsSound p → p.old_number < p.new_number → old_at p pk rk ≡ Some r → seen_tag r.props r.tag ≡ Some t → KnowsKept p pk rk t
-kept_row p pk rk r t s lower is seen = record { key = key (key_cases rk); tag_is = by (seen_is r.props r.tag t seen) } where
+pub may_copy : (p : Pair) (pk rk : List ℕ) (r : Stored) (t : Tag) → IsSound p → p.old_number < p.new_number → old_at p pk rk ≡ Some r → seen_tag r.props r.tag ≡ Some t → KnowsKept p pk rk t
+may_copy p pk rk r t s lower is seen = record { key = key (key_cases rk); tag_is = by (seen_is r.props r.tag t seen) } where
   no_tag : (ps : List Prop) → IsOldMarker p.old_number ps → (own : Tag) → seen_tag ps own ≡ None
   no_tag ps (inl h) own = ap (λ (qs : List Prop). seen_tag qs own) h.1 ∙ one h.0 where
     one : (f : Phase) → seen_tag (marker_props (old_kind f)) own ≡ None
@@ -283,7 +219,7 @@ kept_known p retired pk [] s lower h = tt
 kept_known p retired pk (r ∷ rows) s lower h = go (seen_tag r.props r.tag) refl (kept_known p retired pk rows s lower h.1) where
   go : (o : Option Tag) → seen_tag r.props r.tag ≡ o → AllHold p retired (kept_facts pk rows) → AllHold p retired (kept_fact pk r.rk o (kept_facts pk rows))
   go None e rest = rest
-  go (Some t) e rest = (kept_row p pk r.rk h.0.row t s lower h.0.there (ap (λ (ps : List Prop). seen_tag ps h.0.row.tag) h.0.props ∙ ap (seen_tag r.props) h.0.tag ∙ e), rest)
+  go (Some t) e rest = (may_copy p pk r.rk h.0.row t s lower h.0.there (ap (λ (ps : List Prop). seen_tag ps h.0.row.tag) h.0.props ∙ ap (seen_tag r.props) h.0.tag ∙ e), rest)
 
 pub entries_known : (p : Pair) (retired : Bool) (pk : List ℕ) (rows : List StoredRow) → IsSound p → AllByRecursion (IsRowOf p.new.rows pk) rows → AllHold p retired (row_facts New pk rows)
 entries_known p retired pk [] s h = tt
@@ -292,9 +228,9 @@ entries_known p retired pk (r ∷ rows) s h = (
   entries_known p retired pk rows s h.1,
 )
 
-pub kept_at : (p : Pair) (retired : Bool) (pk : List ℕ) (rows : List StoredRow) → AllHold p retired (kept_facts pk rows) → (rk : List ℕ) → KeptRow p pk rk (row_in rows rk)
-kept_at p retired pk [] h rk = tt
-kept_at p retired pk (r ∷ rows) h rk = go (λ x. kept_at p retired pk rows x rk) (seen_tag r.props r.tag) refl h where
+pub kept_row_at : (p : Pair) (retired : Bool) (pk : List ℕ) (rows : List StoredRow) → AllHold p retired (kept_facts pk rows) → (rk : List ℕ) → KeptRow p pk rk (row_in rows rk)
+kept_row_at p retired pk [] h rk = tt
+kept_row_at p retired pk (r ∷ rows) h rk = go (λ x. kept_row_at p retired pk rows x rk) (seen_tag r.props r.tag) refl h where
   at : (AllHold p retired (kept_facts pk rows) → KeptRow p pk rk (row_in rows rk)) → (o : Option Tag) → seen_tag r.props r.tag ≡ o → IfSome o (λ t. KnowsKept p pk r.rk t) → AllHold p retired (kept_facts pk rows)
       → (b : Bool) → bytes_eq rk r.rk ≡ b → KeptRow p pk rk (cond b (Some r) (row_in rows rk))
   at more o e one rest true same = subst (λ x. IfSome x (λ t. KnowsKept p pk rk t)) (sym e) (subst (λ k. IfSome o (λ t. KnowsKept p pk k t)) (sym (text_true rk r.rk same)) one)
@@ -310,16 +246,6 @@ known_at p retired pk (r ∷ rows) h rk = go (known_at p retired pk rows h.1 rk)
   go : KnownEntry p pk rk (row_in rows rk) → (b : Bool) → bytes_eq rk r.rk ≡ b → KnownEntry p pk rk (cond b (Some r) (row_in rows rk))
   go rest true same = subst (λ k. KnowsRow p.new pk k r.props r.tag) (sym (text_true rk r.rk same)) h.0
   go rest false same = rest
-
--- the first marker's row among what is known of rows
-pub old_known_at : (p : Pair) (retired : Bool) (pk : List ℕ) (rows : List StoredRow) → AllHold p retired (row_facts Old pk rows) → (rk : List ℕ) (r : StoredRow) → row_in rows rk ≡ Some r → KnowsRow p.old pk rk r.props r.tag
-old_known_at p retired pk [] h rk r is = absurd (let e = is in cc)
-old_known_at p retired pk (x ∷ rows) h rk r is = go (λ e. old_known_at p retired pk rows h.1 rk r e) (bytes_eq rk x.rk) refl is where
-  go : (row_in rows rk ≡ Some r → KnowsRow p.old pk rk r.props r.tag) → (b : Bool) → bytes_eq rk x.rk ≡ b → cond b (Some x) (row_in rows rk) ≡ Some r → KnowsRow p.old pk rk r.props r.tag
-  go rest true same e = (let it : x ≡ r = one x r e in subst (λ (y : StoredRow). KnowsRow p.old pk rk y.props y.tag) it (subst (λ k. KnowsRow p.old pk k x.props x.tag) (sym (text_true rk x.rk same)) h.0)) where
-    one : (a b : StoredRow) → Some a ≡ Some b → a ≡ b
-    one a b e = cc
-  go rest false same e = rest e
 
 -- up to its end a reading has the rows of its range
 pub reading_is : (rows : Rows) (pk : List ℕ) (done upto : Option (List ℕ)) (found : Found) (rk : List ℕ) → are_rising rows ≡ true → found.rows ≡ take 50 (rows_within rows pk (next_rows done upto)) → found.more ≡ nat_lt 50 (length (rows_within rows pk (next_rows done upto)))

@@ -3,7 +3,6 @@ pub mod Merging
 pub mod FitLaws
 pub mod MarkerChanges
 pub mod CopyChanges
-pub mod ReadFacts
 pub mod ChunkLaws
 pub mod Knowing
 pub mod MoverLaw

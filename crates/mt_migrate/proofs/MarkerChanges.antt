@@ -1,7 +1,5 @@
 -- A marker is turned, or old is sealed: the pair stays sound, and clients see the same.
-use Rattle.std.proofs.Common.{◌≡◌, ◌≢◌, ℕ, ◌+◌, ◌≤◌, Bool, true, false, cond, List, [], ◌∷◌, Option, Some, None, refl, sym, ap, ◌∙◌, subst, arith, inl, inr, bytes_eq, ◌==◌}
-use Rattle.std.proofs.lemmas.Bool.{and_parts}
-use Rattle.std.proofs.lemmas.Bool.Decides.{nat_tests}
+use Rattle.std.proofs.Common.{◌≡◌, ◌≢◌, ℕ, ◌+◌, ◌≤◌, Bool, true, false, cond, List, [], ◌∷◌, Option, Some, None, refl, sym, ap, ◌∙◌, subst, arith, inl, inr, bytes_eq}
 use Rattle.mt_model.specs.declared.key.KeyPart.TheVariants.{Partition}
 use Rattle.mt_model.specs.declared.tag.Tag.{Tag}
 use Rattle.mt_model.specs.declared.value.Prop.{Prop}
@@ -10,7 +8,7 @@ use Rattle.mt_chain.specs.declared.row.Stored.{Stored}
 use Rattle.mt_chain.specs.declared.row.Put.{Put}
 use Rattle.mt_chain.specs.declared.row.Put.TheVariants.{Insert, Replace}
 use Rattle.mt_chain.specs.Rows.{row_at}
-use Rattle.mt_chain.specs.Puts.{row_key, is_same_tag, has_tag, unmet_from, next_tag}
+use Rattle.mt_chain.specs.Puts.{row_key, unmet_from, next_tag}
 use Rattle.mt_chain.specs.StoreCall.{Contents, sealed_of}
 use Rattle.mt_chain.proofs.KeyLaws.{text_false}
 use Rattle.mt_chain.proofs.PutLaws.{left_by, all_puts, each_held}
@@ -34,7 +32,7 @@ use Rattle.mt_meta.proofs.Rules.{old_read, new_read, key_cases, to_modes, from_m
 use Rattle.mt_meta.proofs.ShownLaws.{logical_in}
 use Rattle.mt_meta.proofs.ModeLaws.{IsWhole, old_in, new_in, says, whole, up, marked_rank, filling_ranks, prefer_new_ranks, is_overlaid}
 use Rattle.mt_meta.proofs.Growth.{ages_self, stays_self, no_rows}
-use Rattle.mt_meta.proofs.StorePuts.{moves_puts, IsSeen, seen, no_row, the_row}
+use Rattle.mt_meta.proofs.StorePuts.{moves_puts, IsSeen, seen, tagged, no_row, the_row}
 use Rattle.mt_meta.proofs.Parts.{FormsAt, KeptAt, kept_on, old_early, new_step}
 
 -- a step in one partition after which clients see the same
@@ -58,18 +56,6 @@ fits_at p pk m s is rk other = subst (λ x. FitsMode x (old_at p pk rk) (new_at 
 row_of : (x : Option Stored) → old_state x ≢ NoOld → (r : Stored) × (x ≡ Some r)
 row_of None h = absurd (h refl)
 row_of (Some r) h = (r, refl)
-
-pub tag_same : (a b : Tag) → is_same_tag a b ≡ true → b ≡ a
-tag_same a b h =
-    let both = and_parts (a.store == b.store) (a.n == b.n) h in
-    let store_is : b.store ≡ a.store = (let e = both.0 in grind (arith, nat_tests)) in
-    let n_is : b.n ≡ a.n = (let e = both.1 in grind (arith, nat_tests)) in
-    λ i. record { store = store_is i; n = n_is i }
-
--- a row is there with that tag
-pub tagged : (x : Option Stored) (tag : Tag) → has_tag tag x ≡ true → (r : Stored) × (x ≡ Some r) × (r.tag ≡ tag)
-tagged None tag h = absurd cc
-tagged (Some r) tag h = (r, refl, tag_same tag r.tag h)
 
 -- ---- old's marker
 

@@ -1,183 +1,27 @@
 -- The walk over the keys of two lists of rows leaves the puts of a chunk.
-use Rattle.std.proofs.Common.{◌≡◌, ◌⊎◌, ℕ, ◌+◌, ◌≤◌, Bool, true, false, cond, not, ◌&&◌, ◌||◌, List, [], ◌∷◌, ◌++◌, map, length, Option, Some, None, refl, sym, ap, subst, ◌∙◌, arith, inl, inr, bytes_eq, Less, Equal, Greater, Ordering}
+use Rattle.std.proofs.Common.{◌≡◌, ◌⊎◌, ℕ, ◌+◌, ◌≤◌, Bool, true, false, cond, not, ◌&&◌, ◌||◌, List, [], ◌∷◌, ◌++◌, map, length, Option, Some, None, refl, sym, ap, subst, ◌∙◌, arith, inl, inr, bytes_eq, Less}
 use Rattle.std.proofs.lemmas.Bool.{or_cases}
 use Rattle.std.proofs.lemmas.Map.Keys.{IsDistinct-cons}
-use Rattle.std.specs.List.{list_any, AllByRecursion, IsDistinct}
+use Rattle.std.specs.List.{AllByRecursion, IsDistinct}
 use Rattle.std.specs.List.Sorted.{IsStrictlySortedBy}
-use Rattle.std.specs.Ordering.{nat_cmp, is_le, is_eq, ordering_reverse}
-use Rattle.std.specs.Cmp.{tied_itself}
-use Rattle.std.specs.Cmp.Lexicographic.{slice_cmp, nat_list_cmp_total, texts_ties}
+use Rattle.std.specs.Ordering.{is_le, is_eq}
+use Rattle.std.specs.Cmp.Lexicographic.{texts_ties}
 use Rattle.mt_model.specs.declared.value.Prop.{Prop}
 use Rattle.mt_chain.specs.declared.row.Put.{Put}
 use Rattle.mt_chain.specs.declared.row.Put.TheVariants as put
 use Rattle.mt_chain.specs.declared.row.StoredRow.{StoredRow}
 use Rattle.mt_chain.specs.Rows.{RisingRows, row_in, is_upto}
 use Rattle.mt_chain.specs.Puts.{CanApply, row_key}
-use Rattle.mt_chain.proofs.KeyLaws.{text_true, text_same, text_false}
+use Rattle.mt_chain.proofs.KeyLaws.{text_same, text_false}
+use Rattle.mt_chain.specs.TwoLists.{first_key, rows_past}
+use Rattle.mt_chain.proofs.TextOrder.{text_cmp, or_left, or_right, or_neither}
+use Rattle.mt_chain.proofs.TwoLists.{has, not_there, left, IsFirst, is_first, Past, past_rows}
 use Rattle.mt_meta.specs.Markers.{marker_key}
 use Rattle.mt_meta.specs.Facts.{is_in}
 use Rattle.mt_model.specs.declared.tag.Tag.{Tag}
 use Rattle.mt_migrate.specs.declared.chunk.Want.{Want}
 use Rattle.mt_migrate.specs.declared.chunk.Want.TheVariants.{Nothing, Insert, Replace, Delete}
-use Rattle.mt_migrate.specs.Chunks.{want_of, is_of_chunk, want_at, is_want, wants_put, props_of, put_by, put_at, KeepsTag, IsWanted, ArePuts, first_key, rows_past, with_put}
-
-abbrev pub text_cmp : List ℕ → List ℕ → Ordering
-text_cmp = slice_cmp nat_cmp
-
--- ---- texts
-
-pub or_left : (a b : Bool) → a ≡ true → (a || b) ≡ true
-or_left a b e = ap (λ t. t || b) e
-
-pub or_right : (a b : Bool) → b ≡ true → (a || b) ≡ true
-or_right true b e = refl
-or_right false b e = e
-
-pub or_neither : (a b : Bool) → (a || b) ≡ false → (a ≡ false) × (b ≡ false)
-or_neither true b e = absurd (let x = e in cc)
-or_neither false b e = (refl, e)
-
-pub text_equal : (a b : List ℕ) → text_cmp a b ≡ Equal → a ≡ b
-text_equal a b e = text_true a b (texts_ties a b ∙ ap is_eq e)
-
--- of two texts that differ the one that is not above the other is below it
-pub le_apart : (a b : List ℕ) → is_le (text_cmp a b) ≡ true → bytes_eq b a ≡ false → text_cmp a b ≡ Less
-le_apart a b le apart = go (text_cmp a b) refl le where
-  go : (o : Ordering) → text_cmp a b ≡ o → is_le o ≡ true → text_cmp a b ≡ Less
-  go Less e le = e
-  go Equal e le = absurd (let same = text_equal a b e in let x : true ≡ false = sym (text_same b) ∙ ap (bytes_eq b) (sym same) ∙ apart in cc)
-  go Greater e le = absurd (let x = le in cc)
-
-le_itself : (a : List ℕ) → is_le (text_cmp a a) ≡ true
-le_itself a = ap is_le (tied_itself nat_list_cmp_total a)
-
-pub not_le : (a b : List ℕ) → is_le (text_cmp a b) ≡ false → text_cmp b a ≡ Less
-not_le a b h = go (text_cmp a b) refl h where
-  go : (o : Ordering) → text_cmp a b ≡ o → is_le o ≡ false → text_cmp b a ≡ Less
-  go Less e h = absurd (let x = h in cc)
-  go Equal e h = absurd (let x = h in cc)
-  go Greater e h = nat_list_cmp_total.antisymm b a ∙ ap ordering_reverse e
-
-le_less : (a b c : List ℕ) → is_le (text_cmp a b) ≡ true → text_cmp b c ≡ Less → text_cmp a c ≡ Less
-le_less a b c p q = go (text_cmp a b) refl p where
-  go : (o : Ordering) → text_cmp a b ≡ o → is_le o ≡ true → text_cmp a c ≡ Less
-  go Less e p = nat_list_cmp_total.trans a b c e q
-  go Equal e p = subst (λ x. text_cmp x c ≡ Less) (sym (text_equal a b e)) q
-  go Greater e p = absurd (let x = p in cc)
-
-pub le_trans : (a b c : List ℕ) → is_le (text_cmp a b) ≡ true → is_le (text_cmp b c) ≡ true → is_le (text_cmp a c) ≡ true
-le_trans a b c p q = go (text_cmp b c) refl q where
-  go : (o : Ordering) → text_cmp b c ≡ o → is_le o ≡ true → is_le (text_cmp a c) ≡ true
-  go Less e q = ap is_le (le_less a b c p e)
-  go Equal e q = subst (λ x. is_le (text_cmp a x) ≡ true) (text_equal b c e) p
-  go Greater e q = absurd (let x = q in cc)
-
--- ---- the keys of rows
-
--- some row has that key
-abbrev pub has : List ℕ → List StoredRow → Bool
-has k rows = list_any (λ r. bytes_eq k r.rk) rows
-
-pub not_there : (rows : List StoredRow) (k : List ℕ) → has k rows ≡ false → row_in rows k ≡ None
-not_there [] k h = refl
-not_there (r ∷ rows) k h = go (λ x. not_there rows k x) (bytes_eq k r.rk) h where
-  go : (has k rows ≡ false → row_in rows k ≡ None) → (b : Bool) → (b || has k rows) ≡ false → cond b (Some r) (row_in rows k) ≡ None
-  go rest true h = absurd (let x = h in cc)
-  go rest false h = rest h
-
-abbrev left : List StoredRow → List StoredRow → List ℕ → Bool
-left old new k = has k old || has k new
-
--- what is below all keys of rows is below each key that they have
-below_has : (x k : List ℕ) (rows : List StoredRow) → AllByRecursion (λ y. text_cmp x y ≡ Less) (map (λ (r : StoredRow). r.rk) rows) → has k rows ≡ true → text_cmp x k ≡ Less
-below_has x k [] all h = absurd (let e = h in cc)
-below_has x k (r ∷ rows) all h = go (λ y. below_has x k rows all.1 y) (bytes_eq k r.rk) refl h where
-  go : (has k rows ≡ true → text_cmp x k ≡ Less) → (b : Bool) → bytes_eq k r.rk ≡ b → (b || has k rows) ≡ true → text_cmp x k ≡ Less
-  go rest true e h = subst (λ y. text_cmp x y ≡ Less) (sym (text_true k r.rk e)) all.0
-  go rest false e h = rest h
-
--- no row has a key below that one
-abbrev AtMost : List ℕ → List StoredRow → Type 0
-AtMost m rows = (k : List ℕ) → has k rows ≡ true → is_le (text_cmp m k) ≡ true
-
-least : (r : StoredRow) (rows : List StoredRow) → RisingRows (r ∷ rows) → AtMost r.rk (r ∷ rows)
-unfolding IsStrictlySortedBy
-least r rows rising k h = go (bytes_eq k r.rk) refl h where
-  go : (b : Bool) → bytes_eq k r.rk ≡ b → (b || has k rows) ≡ true → is_le (text_cmp r.rk k) ≡ true
-  go true e h = subst (λ y. is_le (text_cmp r.rk y) ≡ true) (sym (text_true k r.rk e)) (le_itself r.rk)
-  go false e h = ap is_le (below_has r.rk k rows rising.0 h)
-
-none_least : (m : List ℕ) → AtMost m []
-none_least m k h = absurd (let e = h in cc)
-
--- the first key is there, and none is below it
-record IsFirst (old new : List StoredRow) (m : List ℕ) : Type 0 where
-  pub there : left old new m ≡ true
-  pub low : AtMost m old
-  pub high : AtMost m new
-
-same_key : (a b : List ℕ) → Some a ≡ Some b → a ≡ b
-same_key a b e = cc
-
-head_there : (r : StoredRow) (rows : List StoredRow) → has r.rk (r ∷ rows) ≡ true
-head_there r rows = or_left (bytes_eq r.rk r.rk) (has r.rk rows) (text_same r.rk)
-
-is_first : (old new : List StoredRow) (m : List ℕ) → RisingRows old → RisingRows new → first_key old new ≡ Some m → IsFirst old new m
-is_first [] [] m a b e = absurd (let x = e in cc)
-is_first (r ∷ old) [] m a b e = subst (IsFirst (r ∷ old) []) (same_key r.rk m e) (record { there = or_left (has r.rk (r ∷ old)) false (head_there r old); low = least r old a; high = none_least r.rk })
-is_first [] (s ∷ new) m a b e = subst (IsFirst [] (s ∷ new)) (same_key s.rk m e) (record { there = head_there s new; low = none_least s.rk; high = least s new b })
-is_first (r ∷ old) (s ∷ new) m a b e = go (is_le (text_cmp r.rk s.rk)) refl e where
-  go : (x : Bool) → is_le (text_cmp r.rk s.rk) ≡ x → cond x (Some r.rk) (Some s.rk) ≡ Some m → IsFirst (r ∷ old) (s ∷ new) m
-  go true t e = subst (IsFirst (r ∷ old) (s ∷ new)) (same_key r.rk m e) (record {
-    there = or_left (has r.rk (r ∷ old)) (has r.rk (s ∷ new)) (head_there r old);
-    low = least r old a;
-    high = λ k h. le_trans r.rk s.rk k t (least s new b k h);
-  })
-  go false t e = subst (IsFirst (r ∷ old) (s ∷ new)) (same_key s.rk m e) (record {
-    there = or_right (has s.rk (r ∷ old)) (has s.rk (s ∷ new)) (head_there s new);
-    low = λ k h. le_trans s.rk r.rk k (ap is_le (not_le r.rk s.rk t)) (least r old a k h);
-    high = least s new b;
-  })
-
--- what is left past a key that none is below
-record Past (m : List ℕ) (rows rest : List StoredRow) : Type 0 where
-  pub rising : RisingRows rest
-  pub kept : (k : List ℕ) → has k rest ≡ true → (has k rows ≡ true) × (text_cmp m k ≡ Less)
-  pub gone : (k : List ℕ) → has k rows ≡ true → has k rest ≡ false → k ≡ m
-  pub fewer : length rest ≤ length rows
-  pub less : has m rows ≡ true → length rest + 1 ≤ length rows
-
-past_rows : (m : List ℕ) (rows : List StoredRow) → RisingRows rows → AtMost m rows → Past m rows (rows_past m rows)
-unfolding IsStrictlySortedBy
-past_rows m [] rising low = record { rising = rising; kept = λ k h. absurd (let e = h in cc); gone = λ k h g. absurd (let e = h in cc); fewer = omega arith; less = λ h. absurd (let e = h in cc) }
-past_rows m (r ∷ rows) rising low = go (bytes_eq r.rk m) refl where
-  go : (b : Bool) → bytes_eq r.rk m ≡ b → Past m (r ∷ rows) (cond b rows (r ∷ rows))
-  go true e = (let same = text_true r.rk m e in record {
-    rising = rising.1;
-    kept = λ k h. (or_right (bytes_eq k r.rk) (has k rows) h, subst (λ x. text_cmp x k ≡ Less) same (below_has r.rk k rows rising.0 h));
-    gone = λ k h g. elim (or_cases (bytes_eq k r.rk) (has k rows) h) as (λ _. k ≡ m) [
-      | inl here ↦ text_true k r.rk here ∙ same
-      | inr there ↦ absurd (let x : true ≡ false = sym there ∙ g in cc)
-    ];
-    fewer = omega arith;
-    less = λ h. omega arith;
-  })
-  go false e = (let above : text_cmp m r.rk ≡ Less = le_apart m r.rk (low r.rk (head_there r rows)) e in record {
-    rising = rising;
-    kept = λ k h. (
-      h,
-      elim (or_cases (bytes_eq k r.rk) (has k rows) h) as (λ _. text_cmp m k ≡ Less) [
-        | inl here ↦ subst (λ x. text_cmp m x ≡ Less) (sym (text_true k r.rk here)) above
-        | inr there ↦ nat_list_cmp_total.trans m r.rk k above (below_has r.rk k rows rising.0 there)
-      ],
-    );
-    gone = λ k h g. absurd (let x : true ≡ false = sym h ∙ g in cc);
-    fewer = omega arith;
-    less = λ h. elim (or_cases (bytes_eq m r.rk) (has m rows) h) as (λ _. length (r ∷ rows) + 1 ≤ length (r ∷ rows)) [
-      | inl here ↦ absurd (let x : true ≡ false = sym (ap (λ y. bytes_eq y m) (sym (text_true m r.rk here)) ∙ text_same m) ∙ e in cc)
-      | inr there ↦ absurd (let x : Less ≡ Equal = sym (nat_list_cmp_total.trans m r.rk m above (below_has r.rk m rows rising.0 there)) ∙ tied_itself nat_list_cmp_total m in cc)
-    ];
-  })
+use Rattle.mt_migrate.specs.Chunks.{want_of, is_of_chunk, want_at, is_want, wants_put, props_of, put_by, put_at, KeepsTag, IsWanted, ArePuts, with_put}
 
 -- ---- the put that a key wants
 

@@ -51,7 +51,7 @@ use Rattle.mt_migrate.specs.declared.state.Reading.{Reading}
 use Rattle.mt_migrate.specs.declared.state.State.{State}
 use Rattle.mt_migrate.specs.declared.state.State.TheVariants as at
 use Rattle.mt_migrate.specs.Chunks.{end_of, chunk_end, is_wanting, waiting, wants_put, ArePuts}
-use Rattle.mt_migrate.specs.Moves.{past, next_rows, Asks, begin, onward, walked, by_old_phase, by_old_marker, looked, by_new_phase, claimed, pass_begun, first_tag, by_pass, by_read_phase, read_old, chunk_done, compared, read_new, unwritten, reading_of, moved, MigratorFits, tag_or}
+use Rattle.mt_migrate.specs.Moves.{past, next_rows, Asks, begin, onward, walked, by_old_phase, by_old_marker, looked, by_new_phase, claimed, pass_begun, first_tag, by_pass, by_read_phase, read_old, chunk_done, compared, read_new, unwritten, reading_of, moved, MigratorFits}
 use Rattle.mt_migrate.specs.Known.{behind, walk_facts, old_known, rows_known, epoch_known, done_keys, done_known, kept_facts, state_facts}
 use Rattle.mt_migrate.specs.MoverSteps.{ShowsSame, MoverStep}
 use Rattle.mt_meta.proofs.Parts.{by_part}
@@ -62,12 +62,18 @@ use Rattle.mt_migrate.specs.declared.migrator.MoveProgress.{MoveProgress}
 use Rattle.std.specs.Prelude.{Ok}
 use Rattle.mt_migrate.specs.Chunks.{is_want}
 use Rattle.mt_migrate.specs.Moves.{replaces, phase_said, Absorbs}
-use Rattle.mt_migrate.proofs.Merging.{or_left, or_right, or_neither, has, not_there, nothing_wanted}
-use Rattle.mt_migrate.proofs.MarkerChanges.{Shows, prepared, switched, Begins, begins, takes_over, finishes, epoch_alone, seals, tag_same}
+use Rattle.mt_chain.proofs.TextOrder.{or_left, or_right, or_neither}
+use Rattle.mt_chain.proofs.TwoLists.{has, not_there}
+use Rattle.mt_chain.proofs.RangeRows.{IsRowOf, members, all_taken}
+use Rattle.mt_migrate.proofs.Merging.{nothing_wanted}
+use Rattle.mt_migrate.proofs.MarkerChanges.{Shows, prepared, switched, Begins, begins, takes_over, finishes, epoch_alone, seals}
 use Rattle.mt_migrate.proofs.CopyChanges.{CopyPut, copies, the_marker, copy_row}
-use Rattle.mt_migrate.proofs.ReadFacts.{IsRowOf, members, all_taken}
 use Rattle.mt_migrate.proofs.ChunkLaws.{is_waiting, each_good, named_past, epoch_filled, epoch_written}
-use Rattle.mt_migrate.proofs.Knowing.{hold_more, hold_first, hold_rest, plain_more, apart_left, plain_kept, behind_plain, old_plain, rows_plain, kept_plain, epoch_apart, fresh_apart, as_known, known_alone, known_apart, apart_known, row_known, known_as, marker_read, named_known, prefer_old_props, filling_props, turned_known, less_rows, rows_to_old, swept_to, swept_all, further, kept_known, entries_known, kept_at, known_at, old_known_at, reading_is, lesser_left, lesser_right}
+use Rattle.mt_meta.specs.ReadRows.{tag_or}
+use Rattle.mt_meta.proofs.FactLists.{hold_more, hold_first, hold_rest, plain_more, apart_left, plain_kept}
+use Rattle.mt_meta.proofs.StorePuts.{same_tag}
+use Rattle.mt_meta.proofs.ReadLaws.{row_known, known_in, marker_read, named_known, turned_known}
+use Rattle.mt_migrate.proofs.Knowing.{behind_plain, old_plain, rows_plain, kept_plain, epoch_apart, fresh_apart, as_known, known_alone, known_apart, apart_known, known_as, prefer_old_props, filling_props, less_rows, rows_to_old, swept_to, swept_all, further, kept_known, entries_known, kept_row_at, known_at, reading_is, lesser_left, lesser_right}
 
 -- ---- steps that change nothing
 
@@ -121,7 +127,7 @@ old_phase_law p retired state part named r (Some PreferOld) s know rows is reads
     (ap (λ x. is_begun x (new_state_at p part.pk)) (old_state_is p part.pk r (Some PreferOld) is reads), (known_as p.old_number p.old part.pk marker_key r (marker_props (old_kind PreferOld)) s.tags.0 is (prefer_old_props p part.pk r s is reads), know))
     (tt, (tt, behind_plain part.walk (start.From part.pk)))
 old_phase_law p retired state part named r (Some PreferNew) s know rows is reads = stay p retired state (at.Claim part Second) s
-    (ap (λ x. is_begun x (new_state_at p part.pk)) (old_state_is p part.pk r (Some PreferNew) is reads), (turned_known p part.pk s (ap is_prefer_new (old_state_is p part.pk r (Some PreferNew) is reads)), know))
+    (ap (λ x. is_begun x (new_state_at p part.pk)) (old_state_is p part.pk r (Some PreferNew) is reads), (turned_known p part.pk keys.None [] s (ap is_prefer_new (old_state_is p part.pk r (Some PreferNew) is reads)) (λ rk x. absurd x), know))
     (tt, (tt, behind_plain part.walk (start.From part.pk)))
 old_phase_law p retired state part named r None s know rows is reads = to_begin p retired state s
 
@@ -135,7 +141,7 @@ looked_law p retired part found s know is =
     let named = named_rows p.old.rows part.pk (marker_key ∷ []) in
     subst (λ rows. MoverStep (at.Look part) (looked part rows) retired p p) (sym is.named)
     (subst (λ m. MoverStep (at.Look part) (by_old_marker part named m) retired p p) (sym (marker_read p.old.rows part.pk))
-    (look_law p retired (at.Look part) part named (old_at p part.pk marker_key) s know (named_known p retired part.pk s) refl))
+    (look_law p retired (at.Look part) part named (old_at p part.pk marker_key) s know (named_known Old p retired part.pk (marker_key ∷ []) s.tags.0) refl))
 
 -- ---- a look at new's marker
 
@@ -194,7 +200,7 @@ pass_law p retired part Second epoch done old r phase s know is reads kept rows 
 pass_law p retired part (First was) epoch done old r PreferNew s know is reads kept rows =
     let c = copying_of part (First was) epoch done in
     step_same p retired (at.ReadOld c) (pass_begun part Second epoch) s
-    (know.0, (turned_known p part.pk s (ap is_prefer_new (old_state_is p part.pk r (Some PreferNew) is reads)), know.1.1))
+    (know.0, (turned_known p part.pk keys.None [] s (ap is_prefer_new (old_state_is p part.pk r (Some PreferNew) is reads)) (λ rk x. absurd x), know.1.1))
     (λ f a. (a.0, (plain_right f (old_known part.pk Second) tt, plain_apart f (walk_facts part) (behind_plain part.walk (start.From part.pk)))))
 pass_law p retired part (First was) epoch done old r PreferOld s know is reads kept rows =
     let c = copying_of part (First was) epoch done in
@@ -359,7 +365,7 @@ new_read_law p retired part pass epoch done old new None s know is entries reads
 new_read_law p retired part pass epoch done old new (Some m) s know is entries reads = go (is_same_tag m.tag epoch) refl where
   go : (b : Bool) → is_same_tag m.tag epoch ≡ b
       → MoverStep (at.ReadNew (copying_of part pass epoch done) old) (cond b (compared (copying_of part pass epoch done) (chunk_end old new) old.rows new.rows) (at.Look part)) retired p p
-  go true e = compare_law p retired part pass epoch done old new m s know is (sym (tag_same m.tag epoch e)) entries reads
+  go true e = compare_law p retired part pass epoch done old new m s know is (sym (same_tag m.tag epoch e)) entries reads
   go false e = to_look p retired (at.ReadNew (copying_of part pass epoch done) old) part s (hold_rest p retired (kept_facts part.pk old.rows) (walk_facts part) know.1.1)
 
 read_new_law : (p : Pair) (retired : Bool) (part : Part) (pass : Pass) (epoch : Tag) (done : Option (List ℕ)) (old : Reading) (found : Found) → IsSound p → are_rising p.new.rows ≡ true → AllHold p retired (state_facts (at.ReadNew (copying_of part pass epoch done) old))
@@ -394,7 +400,7 @@ prepare_law : (p : Pair) (retired : Bool) (part : Part) (rows : List StoredRow) 
 prepare_law p retired part rows None c tags s know at_marker fits done = absurd (let e = fits in cc)
 prepare_law p retired part rows (Some m) c tags s know at_marker fits done =
     let own = state_facts (at.Prepare part rows) in
-    let h = prepared own p part.pk m.props m.tag s (old_known_at p retired part.pk rows (hold_first p retired (row_facts Old part.pk rows) (walk_facts part) know) marker_key m at_marker) fits done.met in
+    let h = prepared own p part.pk m.props m.tag s (known_in Old p retired part.pk rows (hold_first p retired (row_facts Old part.pk rows) (walk_facts part) know) marker_key m at_marker) fits done.met in
     let q = with_old p (contents_after p.old_number p.old part.pk (replaces (old_kind PreferOld) m.tag ∷ [])) in
     let there : old_at q part.pk marker_key ≡ Some (record { props = marker_props (old_kind PreferOld); tag = next_tag p.old_number p.old.counter }) = all_puts p.old_number p.old.counter part.pk (replaces (old_kind PreferOld) m.tag ∷ []) p.old.rows marker_key in
     let tag_is : first_tag tags ≡ next_tag p.old_number p.old.counter = ap first_tag done.answer in
@@ -420,7 +426,7 @@ switch_law p retired part marker epoch c tags s know done =
     (changed p q retired (at.Switch part marker epoch) (pass_begun part Second epoch) part.pk h (
       epoch_alone own p q part.pk epoch keys.None s h.step.sound h.step.grows know.0,
       (
-        turned_known q part.pk h.step.sound (ap (λ x. is_prefer_new (old_state x)) there ∙ ap (λ x. is_prefer_new (old_says x)) (old_read p.old_number PreferNew)),
+        turned_known q part.pk keys.None [] h.step.sound (ap (λ x. is_prefer_new (old_state x)) there ∙ ap (λ x. is_prefer_new (old_says x)) (old_read p.old_number PreferNew)) (λ rk x. absurd x),
         plain_kept own p q retired s h.step.sound h.step.grows (walk_facts part) (behind_plain part.walk (start.From part.pk)) know.1.1,
       ),
     )
@@ -503,7 +509,7 @@ module _ (p : Pair) (retired : Bool) (part : Part) (pass : Pass) (epoch : Tag) (
 
   good : Each (CopyPut p part.pk) puts
   good = each_good p part.pk upto rows entries puts are.each
-      (kept_at p retired part.pk rows (hold_first p retired (kept_facts part.pk rows) (row_facts New part.pk entries ++ walk_facts part) know.1.1.1))
+      (kept_row_at p retired part.pk rows (hold_first p retired (kept_facts part.pk rows) (row_facts New part.pk entries ++ walk_facts part) know.1.1.1))
       (known_at p retired part.pk entries (hold_first p retired (row_facts New part.pk entries) (walk_facts part) after_kept))
 
   alone : KnowsEpoch p part.pk epoch keys.None

@@ -22,7 +22,7 @@ use Rattle.mt_migrate.specs.declared.state.State.TheVariants as at
 use Rattle.mt_migrate.specs.Moves.{Asks, Absorbs, MigratorFits}
 use Rattle.mt_migrate.specs.Known.{state_facts}
 use Rattle.mt_migrate.specs.MoverSteps.{MoverStep, IsMoved}
-use Rattle.mt_migrate.proofs.MarkerChanges.{tagged}
+use Rattle.mt_meta.proofs.StorePuts.{tagged}
 use Rattle.mt_migrate.proofs.MoverLaw.{mover_law}
 
 -- each step of a migrator keeps the pair sound, the table that clients see, and what every step is to keep but for the entries of its own epoch; what it knows then holds

@@ -12,7 +12,7 @@ use Rattle.mt_model.specs.Props.{is_visible}
 use Rattle.mt_chain.specs.declared.row.StoredRow.{StoredRow}
 use Rattle.mt_chain.specs.declared.row.Put.{Put}
 use Rattle.mt_chain.specs.declared.row.Put.TheVariants as put
-use Rattle.mt_chain.specs.Rows.{row_in, is_upto}
+use Rattle.mt_chain.specs.Rows.{row_in, read_end, is_upto}
 use Rattle.mt_chain.specs.Puts.{row_key, is_same_tag}
 use Rattle.mt_meta.specs.declared.mark.Mark.{Mark}
 use Rattle.mt_meta.specs.declared.mark.Mark.TheVariants.{Live, Copy, Tomb}
@@ -25,15 +25,9 @@ use Rattle.mt_migrate.specs.declared.chunk.Want.TheVariants.{Nothing, Insert, Re
 
 -- ---- where a chunk ends
 
--- the row key of the last of the rows
-abbrev pub last_key : List StoredRow → Option (List ℕ)
-last_key [] = None
-last_key (r ∷ []) = Some r.rk
-last_key (r ∷ s ∷ rows) = last_key (s ∷ rows)
-
 -- a reading goes up to its last row key where its range has more rows, else to the end
 abbrev pub end_of : Reading → Option (List ℕ)
-end_of reading = if reading.more then last_key reading.rows else None
+end_of reading = read_end reading.rows reading.more
 
 -- the lesser of two ends, of which none is the end of all
 abbrev pub lesser : Option (List ℕ) → Option (List ℕ) → Option (List ℕ)
@@ -133,20 +127,6 @@ pub record ArePuts (upto : Option (List ℕ)) (rows entries : List StoredRow) (p
   pub rising : IsStrictlySortedBy (slice_cmp nat_cmp) (map row_key puts)
   pub each : AllByRecursion (IsWanted upto rows entries) puts
   pub all : (rk : List ℕ) → wants_put upto rows entries rk ≡ true → is_in rk (map row_key puts) ≡ true
-
--- ---- the walk over the keys of two lists of rows, in their order
-
--- the lesser of the first keys
-abbrev pub first_key : List StoredRow → List StoredRow → Option (List ℕ)
-first_key [] [] = None
-first_key (r ∷ rows) [] = Some r.rk
-first_key [] (e ∷ entries) = Some e.rk
-first_key (r ∷ rows) (e ∷ entries) = if is_le (slice_cmp nat_cmp r.rk e.rk) then Some r.rk else Some e.rk
-
--- the rows behind a key, where it is that of the first
-abbrev pub rows_past : List ℕ → List StoredRow → List StoredRow
-rows_past rk [] = []
-rows_past rk (r ∷ rows) = if bytes_eq r.rk rk then rows else r ∷ rows
 
 -- a put behind others, if there is one
 abbrev pub with_put : List Put → Option Put → List Put

@@ -25,6 +25,7 @@ use Rattle.mt_meta.specs.declared.marker.Phase.TheVariants.{UseOld, PreferOld, P
 use Rattle.mt_meta.specs.declared.marker.NewPhase.{NewPhase}
 use Rattle.mt_meta.specs.declared.marker.NewPhase.TheVariants.{Filling, UseNew}
 use Rattle.mt_meta.specs.Markers.{marker_key, marker_props, old_kind, new_kind, old_phase_of, new_phase_of}
+use Rattle.mt_meta.specs.ReadRows.{reads_marked, marker_tag}
 use Rattle.mt_migrate.specs.declared.state.Walk.{Walk}
 use Rattle.mt_migrate.specs.declared.state.Walk.TheVariants.{BeforeSeal, AfterSeal}
 use Rattle.mt_migrate.specs.declared.state.Pass.{Pass}
@@ -40,10 +41,6 @@ use Rattle.mt_migrate.specs.Chunks.{end_of, chunk_end, is_wanting, ArePuts}
 
 -- ---- what is asked
 
--- a query of the marker alone
-abbrev pub reads_marker : Side → List ℕ → StoreAsk
-reads_marker side pk = record { side = side; ask = ask.Query (record { pk = pk; named = marker_key ∷ []; range = None }) }
-
 -- a range begins past what is done
 abbrev pub past : Option (List ℕ) → RkFrom
 past None = place.Start
@@ -53,10 +50,6 @@ past (Some rk) = place.After rk
 abbrev pub next_rows : Option (List ℕ) → Option (List ℕ) → Range
 next_rows done upto = record { from = past done; upto = upto; limit = Some 50 }
 
--- a query of the marker and of a range
-abbrev pub reads_rows : Side → List ℕ → Range → StoreAsk
-reads_rows side pk range = record { side = side; ask = ask.Query (record { pk = pk; named = marker_key ∷ []; range = Some range }) }
-
 abbrev pub writes : Side → List ℕ → List Put → StoreAsk
 writes side pk puts = record { side = side; ask = ask.Apply pk puts }
 
@@ -64,24 +57,16 @@ writes side pk puts = record { side = side; ask = ask.Apply pk puts }
 abbrev pub replaces : List ℕ → Tag → Put
 replaces kind tag = put.Replace marker_key (marker_props kind) tag
 
-abbrev pub tag_or : Option StoredRow → Tag
-tag_or None = any_tag
-tag_or (Some row) = row.tag
-
--- the tag of the marker among rows that were read
-abbrev pub marker_tag : List StoredRow → Tag
-marker_tag rows = tag_or (row_in rows marker_key)
-
 abbrev pub Asks : State → StoreAsk → Type 0
 Asks (at.Walk walk from) a = a ≡ record { side = Old; ask = ask.Next from }
 Asks at.SealOld a = a ≡ record { side = Old; ask = ask.Seal }
-Asks (at.Look part) a = a ≡ reads_marker Old part.pk
+Asks (at.Look part) a = a ≡ reads_marked Old part.pk None
 Asks (at.Prepare part rows) a = a ≡ writes Old part.pk (replaces (old_kind PreferOld) (marker_tag rows) ∷ [])
-Asks (at.Claim part pass) a = a ≡ reads_marker New part.pk
+Asks (at.Claim part pass) a = a ≡ reads_marked New part.pk None
 Asks (at.Begin part pass) a = a ≡ writes New part.pk (put.Insert marker_key (marker_props (new_kind Filling)) ∷ [])
 Asks (at.Takeover part pass filling) a = a ≡ writes New part.pk (replaces (new_kind Filling) filling ∷ [])
-Asks (at.ReadOld copying) a = a ≡ reads_rows Old copying.part.pk (next_rows copying.done None)
-Asks (at.ReadNew copying old) a = a ≡ reads_rows New copying.part.pk (next_rows copying.done (end_of old))
+Asks (at.ReadOld copying) a = a ≡ reads_marked Old copying.part.pk (Some (next_rows copying.done None))
+Asks (at.ReadNew copying old) a = a ≡ reads_marked New copying.part.pk (Some (next_rows copying.done (end_of old)))
 Asks (at.Write copying upto rows entries) a = (puts : List Put) × ArePuts upto rows entries puts × (a ≡ writes New copying.part.pk (put.Check marker_key copying.epoch ∷ puts))
 Asks (at.Switch part marker epoch) a = a ≡ writes Old part.pk (replaces (old_kind PreferNew) marker ∷ [])
 Asks (at.Finish part epoch) a = a ≡ writes New part.pk (replaces (new_kind UseNew) epoch ∷ [])

@@ -4,30 +4,22 @@ ghost use Rattle.mt_chain.specs.Asks.{CanAsk};
 ghost use Rattle.mt_chain.specs.Puts.{row_key};
 ghost use Rattle.mt_meta.specs.Markers.{marker_key, marker_props, old_kind, new_kind};
 ghost use Rattle.mt_migrate.specs.Chunks.{end_of};
-ghost use Rattle.mt_migrate.specs.Moves.{reads_marker, past, next_rows, reads_rows, writes, replaces, marker_tag, Asks, AreNext};
+ghost use Rattle.mt_meta.specs.ReadRows.{reads_marked};
+ghost use Rattle.mt_migrate.specs.Moves.{past, next_rows, writes, replaces, Asks, AreNext};
 ghost use Rattle.mt_migrate.specs.declared.state.State.TheVariants as at;
 
 use crate::chunk::{copy_end, end_of};
 use crate::puts::puts_of;
 use crate::state::{Copying, Reading};
-use mt_chain::{Ask, PkFrom, Put, Puts, Range, RangeQuery, RkFrom, Side, StoreAsk, StoredRows};
-use mt_meta::{MARKER_KEY, NewPhase, Phase, new_marker, old_marker};
-use mt_model::{NoMemory, Tag, Text, Texts};
+use mt_chain::{Ask, PkFrom, Put, Puts, Range, RkFrom, Side, StoreAsk, StoredRows};
+use mt_meta::{
+    NewPhase, Phase, bear_marker, check_marker, new_marker, old_marker, read_marked, turn_marker,
+};
+use mt_model::{NoMemory, Tag, Text};
 use std::alloc::Global;
-
-/// The tag of no row.
-pub(crate) const NO_TAG: Tag = Tag { store: 0, n: 0 };
 
 /// Rows in a chunk of one store, the marker among them, at most.
 const CHUNK: u32 = 50;
-
-fn marker_name(alloc: Global) -> Result<Texts, NoMemory>
-    ensures { IfOk result (λ names. names ≡ marker_key ∷ []) }
-{
-    let mut names = Vec::new(alloc);
-    names.push(Text::of(alloc, MARKER_KEY)?)?;
-    Ok(Texts::of(names))
-}
 
 /// The question for old's next partition. The one error is want of memory.
 pub(crate) fn next_of(alloc: Global, from: &PkFrom) -> Result<StoreAsk, NoMemory>
@@ -40,22 +32,6 @@ pub(crate) fn next_of(alloc: Global, from: &PkFrom) -> Result<StoreAsk, NoMemory
     Ok(StoreAsk {
         side: Side::Old,
         ask: Ask::Next(from),
-    })
-}
-
-/// A read of a partition's marker. The one error is want of memory.
-pub(crate) fn read_marker(alloc: Global, side: Side, pk: &Text) -> Result<StoreAsk, NoMemory>
-    ensures asks { IfOk result (λ a. a ≡ reads_marker side pk.now) }
-    ensures can { IfOk result (λ a. CanAsk a.ask) }
-{
-    let query = RangeQuery {
-        pk: pk.copy(alloc)?,
-        named: marker_name(alloc)?,
-        range: None,
-    };
-    Ok(StoreAsk {
-        side,
-        ask: Ask::Query(query),
     })
 }
 
@@ -74,7 +50,7 @@ fn read_rows(
     copying: &Copying,
     upto: Option<&Text>,
 ) -> Result<StoreAsk, NoMemory>
-    ensures asks { IfOk result (λ a. a ≡ reads_rows side copying.now.part.pk (next_rows copying.now.done (option_copied upto.entry))) }
+    ensures asks { IfOk result (λ a. a ≡ reads_marked side copying.now.part.pk (Some (next_rows copying.now.done (option_copied upto.entry)))) }
     ensures can { IfOk result (λ a. CanAsk a.ask) }
 {
     let range = Range {
@@ -82,15 +58,7 @@ fn read_rows(
         upto: copy_end(alloc, upto)?,
         limit: Some(CHUNK),
     };
-    let query = RangeQuery {
-        pk: copying.part.pk.copy(alloc)?,
-        named: marker_name(alloc)?,
-        range: Some(range),
-    };
-    Ok(StoreAsk {
-        side,
-        ask: Ask::Query(query),
-    })
+    read_marked(alloc, side, &copying.part.pk, Some(range))
 }
 
 /// A read of old's next rows. The one error is want of memory.
@@ -140,9 +108,8 @@ pub(crate) fn turn_old(
     ensures asks { IfOk result (λ a. a ≡ writes Side.Old pk.now (replaces (old_kind phase) tag ∷ [])) }
     ensures can { IfOk result (λ a. CanAsk a.ask) }
 {
-    let rk = Text::of(alloc, MARKER_KEY)?;
     let props = old_marker(alloc, phase)?;
-    write_one(alloc, Side::Old, pk, Put::Replace { rk, props, tag })
+    write_one(alloc, Side::Old, pk, turn_marker(alloc, props, tag)?)
 }
 
 /// New's marker of that phase in the place of the one of that tag. The one error is want of memory.
@@ -155,9 +122,8 @@ pub(crate) fn turn_new(
     ensures asks { IfOk result (λ a. a ≡ writes Side.New pk.now (replaces (new_kind phase) tag ∷ [])) }
     ensures can { IfOk result (λ a. CanAsk a.ask) }
 {
-    let rk = Text::of(alloc, MARKER_KEY)?;
     let props = new_marker(alloc, phase)?;
-    write_one(alloc, Side::New, pk, Put::Replace { rk, props, tag })
+    write_one(alloc, Side::New, pk, turn_marker(alloc, props, tag)?)
 }
 
 /// New's first marker of a partition. The one error is want of memory.
@@ -165,19 +131,8 @@ pub(crate) fn bear_new(alloc: Global, pk: &Text) -> Result<StoreAsk, NoMemory>
     ensures asks { IfOk result (λ a. a ≡ writes Side.New pk.now (Put.Insert marker_key (marker_props (new_kind NewPhase.Filling)) ∷ [])) }
     ensures can { IfOk result (λ a. CanAsk a.ask) }
 {
-    let rk = Text::of(alloc, MARKER_KEY)?;
     let props = new_marker(alloc, NewPhase::Filling)?;
-    write_one(alloc, Side::New, pk, Put::Insert { rk, props })
-}
-
-/// The tag of the marker among rows that were read.
-pub(crate) fn marker_tag(rows: &StoredRows) -> Tag
-    ensures { result ≡ marker_tag rows.now }
-{
-    match rows.get(MARKER_KEY) {
-        Some(marker) => marker.tag,
-        None => NO_TAG,
-    }
+    write_one(alloc, Side::New, pk, bear_marker(alloc, props)?)
 }
 
 /// The write of a chunk's copies, under a check of the epoch. The one error is want of memory.
@@ -193,11 +148,7 @@ pub(crate) fn write_copies(
     ensures can { IfOk result (λ a. CanAsk a.ask) }
 {
     let pk = copying.part.pk.copy(alloc)?;
-    let rk = Text::of(alloc, MARKER_KEY)?;
-    let check = Put::Check {
-        rk,
-        tag: copying.epoch,
-    };
+    let check = check_marker(alloc, copying.epoch)?;
     let puts = puts_of(alloc, upto, rows, entries, check)?;
     Ok(StoreAsk {
         side: Side::New,

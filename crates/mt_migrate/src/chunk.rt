@@ -3,7 +3,7 @@ ghost use Rattle.std.specs.Prelude.{◌≡◌, Some, None, IfOk, MatchOption, []
 ghost use Rattle.std.specs.List.{list_any};
 ghost use Rattle.mt_model.specs.Props.{is_visible};
 ghost use Rattle.mt_meta.specs.Marks.{seen_tag};
-ghost use Rattle.mt_migrate.specs.Chunks.{last_key, end_of, lesser, chunk_end, are_alike, insert_want, replace_want, copy_want, want_of, is_of_chunk, want_at, is_want, wants_put, is_wanting};
+ghost use Rattle.mt_migrate.specs.Chunks.{end_of, lesser, chunk_end, are_alike, insert_want, replace_want, copy_want, want_of, is_of_chunk, want_at, is_want, wants_put, is_wanting};
 
 use crate::state::Reading;
 use mt_chain::{Found, StoredRow, StoredRows, is_upto};
@@ -11,25 +11,11 @@ use mt_meta::{MARKER_KEY, Mark, mark_of, seen_tag};
 use mt_model::{NoMemory, Prop, Props, Tag, Text};
 use std::alloc::Global;
 
-/// The row key of the last of the rows.
-fn last_key(rows: &[StoredRow]) -> Option<&Text>
-    ensures { option_copied result ≡ last_key rows.now }
-{
-    match rows.last() {
-        None => None,
-        Some(row) => Some(&row.rk),
-    }
-}
-
 /// Where a reading ends: at its last row key where its range has more rows, else nowhere.
 pub(crate) fn end_of(rows: &StoredRows, more: bool) -> Option<&Text>
     ensures { option_copied result ≡ end_of (record { rows = rows.now; more = more }) }
 {
-    if more {
-        last_key(rows.as_slice())
-    } else {
-        None
-    }
+    if more { rows.last_key() } else { None }
 }
 
 /// The lesser of two ends.

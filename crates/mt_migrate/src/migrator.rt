@@ -4,15 +4,12 @@ ghost use Rattle.mt_chain.specs.declared.ask.StoreAsk.{StoreAsk};
 ghost use Rattle.mt_chain.specs.Asks.{CanAsk, FitsAsk};
 ghost use Rattle.mt_migrate.specs.Moves.{Asks, Absorbs, MigratorFits, GoesOn, TakesMemory, begin, end_read, after_next, after_seal, after_read, after_write, after_sealed_off, after_unmet, moved, progress_at};
 
-use crate::asks::{
-    bear_new, marker_tag, next_of, read_marker, read_new, read_old, turn_new, turn_old,
-    write_copies,
-};
+use crate::asks::{bear_new, next_of, read_new, read_old, turn_new, turn_old, write_copies};
 use crate::chunk::chunk_end;
 use crate::moves;
 use crate::state::{Pass, Reading, State, Walk};
 use mt_chain::{Ask, Found, Side, StoreAsk, StoreReply};
-use mt_meta::{MARKER_KEY, NewPhase, Phase};
+use mt_meta::{MARKER_KEY, NewPhase, Phase, marker_tag, read_marked};
 use mt_model::{NoMemory, Tag, Text};
 use std::alloc::Global;
 use std::marker::Model;
@@ -197,14 +194,14 @@ impl Migrator {
                 side: Side::Old,
                 ask: Ask::Seal,
             }),
-            State::Look { part } => read_marker(alloc, Side::Old, &part.pk),
+            State::Look { part } => read_marked(alloc, Side::Old, &part.pk, None),
             State::Prepare { part, rows } => turn_old(
                 alloc,
                 &part.pk,
                 Phase::PreferOld,
                 marker_tag(rows),
             ),
-            State::Claim { part, .. } => read_marker(alloc, Side::New, &part.pk),
+            State::Claim { part, .. } => read_marked(alloc, Side::New, &part.pk, None),
             State::Begin { part, .. } => bear_new(alloc, &part.pk),
             State::Takeover { part, filling, .. } => turn_new(
                 alloc,

@@ -4,11 +4,10 @@ ghost use Rattle.mt_meta.specs.Markers.{marker_key};
 ghost use Rattle.mt_chain.specs.Puts.{is_same_tag};
 ghost use Rattle.mt_migrate.specs.Moves.{begin, onward, walked, by_old_phase, looked, by_new_phase, claimed, pass_begun, first_tag, by_pass, read_old, pass_done, chunk_done, compared, read_new, unwritten};
 
-use crate::asks::NO_TAG;
 use crate::chunk::is_wanting;
 use crate::state::{Copying, Part, Pass, Reading, State, Walk};
 use mt_chain::{PkFrom, StoredRow, StoredRows, Tags};
-use mt_meta::{MARKER_KEY, NewPhase, Phase, new_phase, old_phase};
+use mt_meta::{MARKER_KEY, NO_TAG, NewPhase, Phase, new_phase, old_phase};
 use mt_model::{Tag, Text};
 use std::alloc::Global;
 

@@ -1,13 +1,11 @@
 //! The puts of a chunk, in the order of their keys.
-ghost use Rattle.std.specs.Prelude.{◌≡◌, ◌≤◌, ◌+◌, ◌∷◌, List, IfOk, length, option_copied, if◌then◌else◌};
-ghost use Rattle.std.specs.Ordering.{nat_cmp, is_le};
-ghost use Rattle.std.specs.Cmp.Lexicographic.{slice_cmp};
+ghost use Rattle.std.specs.Prelude.{◌≡◌, ◌≤◌, ◌+◌, ◌∷◌, List, IfOk, length, option_copied};
 ghost use Rattle.mt_meta.specs.Marks.{stored};
 ghost use Rattle.mt_chain.specs.declared.row.Put.{Put};
-ghost use Rattle.mt_migrate.specs.Chunks.{props_of, put_by, want_at, put_at, KeepsTag, ArePuts, first_key, rows_past, with_put};
+ghost use Rattle.mt_migrate.specs.Chunks.{props_of, put_by, want_at, put_at, KeepsTag, ArePuts, with_put};
 
 use crate::chunk::{Want, want_at};
-use mt_chain::{Put, StoredRow, StoredRows};
+use mt_chain::{Put, StoredRow, StoredRows, first_key, rows_past};
 use mt_meta::{Mark, stored};
 use mt_model::{NoMemory, Props, Tag, Text};
 use std::alloc::Global;
@@ -73,35 +71,6 @@ fn push_put(
         puts.push(put)?;
     }
     Ok(())
-}
-
-/// The lesser of two row keys.
-fn lesser<'a>(a: &'a Text, b: &'a Text) -> &'a Text
-    ensures { result.now ≡ (if is_le (slice_cmp nat_cmp a.now b.now) then a.now else b.now) }
-{
-    if a <= b { a } else { b }
-}
-
-/// The least key of rows of both stores.
-fn first_key<'a>(rows: &'a [StoredRow], entries: &'a [StoredRow]) -> Option<&'a Text>
-    ensures { option_copied result ≡ first_key rows.now entries.now }
-{
-    match (rows.first(), entries.first()) {
-        (None, None) => None,
-        (Some(row), None) => Some(&row.rk),
-        (None, Some(entry)) => Some(&entry.rk),
-        (Some(row), Some(entry)) => Some(lesser(&row.rk, &entry.rk)),
-    }
-}
-
-/// The rows behind a key, where it is that of the first.
-fn rows_past<'a>(rows: &'a [StoredRow], rk: &Text) -> &'a [StoredRow]
-    ensures { result.now ≡ rows_past rk.now rows.now }
-{
-    match rows.split_first() {
-        Some((row, rest)) if row.rk == *rk => rest,
-        _ => rows,
-    }
 }
 
 /// The puts of a chunk behind a first put. The one error is want of memory.

@@ -13,7 +13,8 @@ use Rattle.mt_chain.proofs.SearchLaws.{find_at, rises}
 use Rattle.mt_meta.specs.Logical.{Pair}
 use Rattle.mt_open.specs.declared.damage.Rule.{Rule}
 use Rattle.mt_chain.specs.declared.ask.Side.{Side}
-use Rattle.mt_open.specs.Damage.{contents_of, RowFails, FailsByRow, place, IsLeastIn}
+use Rattle.mt_meta.specs.Steps.{contents_of}
+use Rattle.mt_open.specs.Damage.{RowFails, FailsByRow, place, IsLeastIn}
 use Rattle.mt_open.proofs.RepeatLaws.{self_tied, tied_true, eq_equal}
 
 abbrev Entry : Type 0

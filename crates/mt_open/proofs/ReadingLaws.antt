@@ -17,7 +17,7 @@ use Rattle.mt_chain.specs.declared.query.PkFrom.{PkFrom}
 use Rattle.mt_chain.specs.declared.query.PkFrom.TheVariants as start
 use Rattle.mt_chain.specs.declared.query.Found.{Found}
 use Rattle.mt_chain.specs.declared.query.Next.{Next}
-use Rattle.mt_chain.specs.Rows.{Rows, key_at, are_rising, is_from, is_past, shown, has_partition}
+use Rattle.mt_chain.specs.Rows.{Rows, key_at, are_rising, is_from, is_past, shown, has_partition, last_key}
 use Rattle.mt_chain.specs.Places.{is_before, is_passed}
 use Rattle.mt_chain.specs.StoreCall.{Contents, IsContents, CanQuery, FitsQuery, IsFound, IsNext}
 use Rattle.mt_chain.specs.Store.{Store, Onward, Rose, FaultsBy, Counted, Early, Same}
@@ -25,7 +25,7 @@ use Rattle.mt_chain.proofs.KeyLaws.{key_total, text_true, text_same}
 use Rattle.mt_open.specs.declared.reading.Loaded.{Loaded}
 use Rattle.mt_open.specs.declared.reading.ReadFault.{ReadFault}
 use Rattle.mt_open.specs.declared.reading.ReadFault.TheVariants.{NoMemory}
-use Rattle.mt_open.specs.Reading.{is_failure, Passed, AsBefore, IsRead, ReadsStore, keyed, chunk_query, last_key, place_after, keyed_row, ReadsChunk, AllPass, IsReadTo, is_before_in, is_in, ReadUpTo, ReadsPartition, AsksNext, Walked}
+use Rattle.mt_open.specs.Reading.{is_failure, Passed, AsBefore, IsRead, ReadsStore, keyed, chunk_query, place_after, keyed_row, ReadsChunk, AllPass, IsReadTo, is_before_in, is_in, ReadUpTo, ReadsPartition, AsksNext, Walked}
 use Rattle.mt_open.proofs.ReadingLists.{Entry, weaker, always, filter_none, filter_all, filter_twice, rising_filter, joined, last_of, taken, or_right}
 use Rattle.mt_open.proofs.ReadingShape.{text_cmp, turned, from_apart, past_apart, less_by_pk, same_pk, last_is, key_each, shape_more, shape_whole, shape_start}
 

@@ -1,17 +1,15 @@
 -- Parts of lists of rows whose keys rise.
-use Rattle.std.proofs.Common.{◌≡◌, ℕ, zero, suc, ◌-◌, Bool, true, false, cond, ◌&&◌, ◌||◌, List, [], ◌∷◌, ◌++◌, map, length, take, filter, option_map, refl, sym, ap, ◌∙◌, subst, arith, Some, None, Option, Less, Equal, Greater, Ordering}
+use Rattle.std.proofs.Common.{◌≡◌, ℕ, zero, suc, Bool, true, false, cond, ◌&&◌, ◌||◌, List, [], ◌∷◌, ◌++◌, map, take, filter, option_map, refl, sym, ap, ◌∙◌, subst, Some, None, Option, Less, Equal, Greater, Ordering}
 use Rattle.std.proofs.lemmas.Bool.{and_parts}
-use Rattle.std.specs.List.{AllByRecursion, slice_get}
+use Rattle.std.specs.List.{AllByRecursion}
 use Rattle.std.specs.Ordering.{is_lt, is_le, ordering_reverse}
 use Rattle.std.specs.Cmp.{tied_itself}
 use Rattle.std.specs.FinMap.Entries.{below_all, is_sorted}
 use Rattle.mt_model.specs.declared.key.Key.{Key}
 use Rattle.mt_model.specs.Key.{key_cmp}
 use Rattle.mt_chain.specs.declared.row.Stored.{Stored}
-use Rattle.mt_chain.specs.declared.row.StoredRow.{StoredRow}
 use Rattle.mt_chain.specs.Rows.{Rows, are_rising}
 use Rattle.mt_chain.proofs.KeyLaws.{key_total}
-use Rattle.mt_open.specs.Reading.{last_key}
 
 abbrev pub Entry : Type 0
 Entry = Key × Stored
@@ -138,13 +136,6 @@ last_of [] = None
 last_of (x ∷ []) = Some x
 last_of (x ∷ y ∷ xs) = last_of (y ∷ xs)
 
-pub last_get : {X : Type 0} (xs : List X) → slice_get xs (length xs - 1) ≡ last_of xs
-last_get [] = refl
-last_get (x ∷ xs) = let e : length (x ∷ xs) - 1 ≡ length xs = omega arith in ap (slice_get (x ∷ xs)) e ∙ last_is x xs where
-  last_is : {X : Type 0} (x : X) (xs : List X) → slice_get (x ∷ xs) (length xs) ≡ last_of (x ∷ xs)
-  last_is x [] = refl
-  last_is x (y ∷ ys) = last_is y ys
-
 pub last_map : {X Y : Type 0} (f : X → Y) (xs : List X) → last_of (map f xs) ≡ option_map f (last_of xs)
 last_map f [] = refl
 last_map f (x ∷ []) = refl
@@ -180,10 +171,3 @@ taken (suc n) (y ∷ rows) x h e = go (λ last. taken n rows x (rest_rising y ro
   go rest (z ∷ zs) t =
       let last : last_of (take n rows) ≡ Some x = ap last_of t ∙ sym (ap (λ rs. last_of (y ∷ rs)) t) ∙ e in
       head_le (ap is_le (last_has (λ w. key_cmp y.0 w.0 ≡ Less) (take n rows) x (below_take y.0 n rows (head_below y rows h)) last)) refl (rest last)
-
--- ---- the last row key
-
-pub last_key_is : (rows : List StoredRow) → last_key rows ≡ option_map (λ r. r.rk) (last_of rows)
-last_key_is [] = refl
-last_key_is (r ∷ []) = refl
-last_key_is (r ∷ s ∷ rows) = last_key_is (s ∷ rows)

@@ -14,10 +14,10 @@ use Rattle.mt_chain.specs.declared.query.RkFrom.{RkFrom}
 use Rattle.mt_chain.specs.declared.query.RkFrom.TheVariants as place
 use Rattle.mt_chain.specs.declared.query.PkFrom.{PkFrom}
 use Rattle.mt_chain.specs.declared.query.PkFrom.TheVariants as start
-use Rattle.mt_chain.specs.Rows.{Rows, key_at, are_rising, is_from, is_past}
+use Rattle.mt_chain.specs.Rows.{Rows, key_at, are_rising, is_from, is_past, last_key}
 use Rattle.mt_chain.specs.Places.{is_before, is_passed}
 use Rattle.mt_chain.proofs.KeyLaws.{text_true, text_same}
-use Rattle.mt_open.specs.Reading.{keyed, last_key, AllPass}
+use Rattle.mt_open.specs.Reading.{keyed, AllPass}
 use Rattle.mt_open.proofs.ReadingLists.{Entry, lt_less, or_left, or_right, and_both, weaker, all_append, below_each, rising_append}
 
 abbrev pub text_cmp : List ℕ → List ℕ → Ordering

@@ -16,7 +16,8 @@ use Rattle.mt_open.specs.declared.damage.Rule.{Rule}
 use Rattle.mt_open.specs.declared.damage.Rule.TheVariants as rule
 use Rattle.mt_chain.specs.declared.ask.Side.{Side}
 use Rattle.mt_chain.specs.declared.ask.Side.TheVariants.{Old, New}
-use Rattle.mt_open.specs.Damage.{Place, number_of, contents_of, row_in, marker_of, IsMarkerIn, IsRowIn, HasForm, FailsKept, FailsOwn, RowFails, FailsAt}
+use Rattle.mt_meta.specs.Steps.{number_of, contents_of}
+use Rattle.mt_open.specs.Damage.{Place, row_in, marker_of, IsMarkerIn, IsRowIn, HasForm, FailsKept, FailsOwn, RowFails, FailsAt}
 use Rattle.mt_open.proofs.Deciding.{Either, stable, form_or_not, same_numbers as cases_numbers, same_texts as cases_texts}
 
 -- ---- a sound pair fails nowhere

@@ -8,7 +8,8 @@ use Rattle.mt_chain.specs.declared.row.Stored.{Stored}
 use Rattle.mt_chain.specs.Rows.{are_rising}
 use Rattle.mt_meta.specs.Logical.{Pair}
 use Rattle.mt_chain.specs.declared.ask.Side.{Side}
-use Rattle.mt_open.specs.Damage.{number_of, contents_of, row_in, FailsNumber, FailsOwn}
+use Rattle.mt_meta.specs.Steps.{number_of, contents_of}
+use Rattle.mt_open.specs.Damage.{row_in, FailsNumber, FailsOwn}
 use Rattle.mt_open.specs.Repeats.{how_many}
 use Rattle.mt_open.proofs.Deciding.{stable, same_numbers}
 use Rattle.mt_open.proofs.RepeatLaws.{another, counted_twice}

@@ -9,12 +9,12 @@ use Rattle.mt_model.specs.declared.value.Prop.{Prop}
 use Rattle.mt_model.specs.Key.{key_cmp, part_fault, key_fault}
 use Rattle.mt_chain.specs.declared.row.Stored.{Stored}
 use Rattle.mt_chain.specs.Rows.{row_at, key_at}
-use Rattle.mt_chain.specs.StoreCall.{Contents}
 use Rattle.mt_meta.specs.declared.mark.Mark.TheVariants.{Copy, Tomb}
 use Rattle.mt_meta.specs.Markers.{marker_key}
 use Rattle.mt_meta.specs.Marks.{mark_of}
 use Rattle.mt_meta.specs.Logical.{Pair, AtUseOld, AtPreferOld, AtPreferNew, AtFilling, AtUseNew, new_state, old_at, new_at, old_state_at}
 use Rattle.mt_meta.specs.Sound.{IsOldMarker, IsNewMarker, IsOldRow, IsEntry, IsCopyOrNone}
+use Rattle.mt_meta.specs.Steps.{number_of, contents_of}
 use Rattle.mt_open.specs.declared.damage.Rule.{Rule}
 use Rattle.mt_open.specs.declared.damage.Rule.TheVariants as rule
 use Rattle.mt_chain.specs.declared.ask.Side.{Side}
@@ -35,16 +35,6 @@ rule_number rule.Unsealed = 8
 -- the rules, in their order
 abbrev pub all_rules : List Rule
 all_rules = rule.Forms ∷ rule.Marked ∷ rule.UseOld ∷ rule.PreferOld ∷ rule.PreferNew ∷ rule.NoOld ∷ rule.Tags ∷ rule.Unsealed ∷ []
-
--- the number of one of the two stores
-abbrev pub number_of : Pair → Side → ℕ
-number_of p Old = p.old_number
-number_of p New = p.new_number
-
--- the contents of one of the two stores
-abbrev pub contents_of : Pair → Side → Contents
-contents_of p Old = p.old
-contents_of p New = p.new
 
 -- the row of one of the two stores at a key
 abbrev pub row_in : Pair → Side → Key → Option Stored

@@ -1,5 +1,5 @@
 -- A store that is read whole: what the parts of the reading say.
-use Rattle.std.specs.Prelude.{◌≡◌, ℕ, ◌≤◌, Bool, true, false, not, ◌&&◌, IsTrue, bytes_eq, List, [], ◌∷◌, ◌++◌, map, Option, None, Some, option_map, Result, Ok, Err, if◌then◌else◌}
+use Rattle.std.specs.Prelude.{◌≡◌, ℕ, ◌≤◌, Bool, true, false, not, ◌&&◌, IsTrue, bytes_eq, List, [], ◌++◌, map, Option, None, Some, option_map, Result, Ok, Err, if◌then◌else◌}
 use Rattle.std.specs.List.{AllByRecursion}
 use Rattle.std.specs.List.Sorted.{IsStrictlySortedBy}
 use Rattle.std.specs.Ordering.{nat_cmp}
@@ -16,7 +16,7 @@ use Rattle.mt_chain.specs.declared.query.PkFrom.TheVariants as start
 use Rattle.mt_chain.specs.declared.query.RangeQuery.{RangeQuery}
 use Rattle.mt_chain.specs.declared.query.Found.{Found}
 use Rattle.mt_chain.specs.declared.query.Next.{Next}
-use Rattle.mt_chain.specs.Rows.{Rows, key_at, are_rising, is_from}
+use Rattle.mt_chain.specs.Rows.{last_key, Rows, key_at, are_rising, is_from}
 use Rattle.mt_chain.specs.Places.{is_before, is_passed}
 use Rattle.mt_chain.specs.StoreCall.{Contents}
 use Rattle.mt_chain.specs.Store.{Store, Onward, FaultsBy, Rose, Counted, Same, Queried, NextShows}
@@ -74,11 +74,6 @@ keyed pk rows = map (keyed_row pk) rows
 -- what is asked for: the first hundred rows of a partition from a place on
 abbrev pub chunk_query : List ℕ → RkFrom → RangeQuery
 chunk_query pk from = record { pk = pk; named = []; range = Some (record { from = from; upto = None; limit = Some 100 }) }
-
-abbrev pub last_key : List StoredRow → Option (List ℕ)
-last_key [] = None
-last_key (r ∷ []) = Some r.rk
-last_key (r ∷ s ∷ rows) = last_key (s ∷ rows)
 
 -- past the last row of an answer that has more
 abbrev pub place_after : Found → Option RkFrom

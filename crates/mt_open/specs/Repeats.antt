@@ -9,7 +9,8 @@ use Rattle.mt_meta.specs.Logical.{Pair}
 use Rattle.mt_chain.specs.declared.ask.Side.{Side}
 use Rattle.mt_chain.specs.declared.ask.Side.TheVariants.{Old, New}
 use Rattle.mt_open.specs.declared.tags.Repeats.{Repeats}
-use Rattle.mt_open.specs.Damage.{number_of, contents_of, row_in}
+use Rattle.mt_meta.specs.Steps.{number_of, contents_of}
+use Rattle.mt_open.specs.Damage.{row_in}
 
 -- the row has that tag
 abbrev pub has_tag : ℕ → ℕ → Key × Stored → Bool

@@ -1,7 +1,7 @@
 //! The two stores, read whole.
 ghost use Rattle.std.specs.Prelude.{◌≡◌, IsTrue};
 ghost use Rattle.mt_chain.specs.Rows.{are_rising};
-ghost use Rattle.mt_open.specs.Damage.{number_of, contents_of};
+ghost use Rattle.mt_meta.specs.Steps.{number_of, contents_of};
 ghost use Rattle.mt_open.specs.Holdings.{pair_in};
 
 use crate::holding::Holding;

@@ -5,7 +5,7 @@ ghost use Rattle.std.specs.Ordering.{nat_cmp};
 ghost use Rattle.std.specs.Cmp.Lexicographic.{slice_cmp};
 ghost use Rattle.mt_chain.specs.Places.{is_before};
 ghost use Rattle.mt_chain.specs.StoreCall.{CanQuery};
-ghost use Rattle.mt_open.specs.Reading.{Passed, has_failed, ReadsStore, keyed_row, keyed, chunk_query, last_key, place_after, ReadsChunk, QueryShows, AllPass, ReadsPartition, without_value, AsksNext};
+ghost use Rattle.mt_open.specs.Reading.{Passed, has_failed, ReadsStore, keyed_row, keyed, chunk_query, place_after, ReadsChunk, QueryShows, AllPass, ReadsPartition, without_value, AsksNext};
 
 use mt_chain::{
     Found, KeepFault, Keeper, Next, PkFrom, Range, RangeQuery, RkFrom, Row, Rows, Stored, StoredRow,
@@ -102,16 +102,6 @@ fn push_rows(
     Ok(())
 }
 
-/// A copy of the last row key.
-fn last_key(alloc: Global, rows: &[StoredRow]) -> Result<Option<Text>, NoMemory>
-    ensures { IfOk result (λ rk. rk ≡ last_key rows.now) }
-{
-    match rows.last() {
-        None => Ok(None),
-        Some(row) => Ok(Some(row.rk.copy(alloc)?)),
-    }
-}
-
 /// Where the rows after a chunk begin, if there may be any.
 fn place_after(alloc: Global, found: &Found) -> Result<Option<RkFrom>, NoMemory>
     ensures { IfOk result (λ place. place ≡ place_after found.now) }
@@ -119,9 +109,9 @@ fn place_after(alloc: Global, found: &Found) -> Result<Option<RkFrom>, NoMemory>
     if !found.more {
         return Ok(None);
     }
-    match last_key(alloc, found.rows.as_slice())? {
+    match found.rows.last_key() {
         None => Ok(None),
-        Some(rk) => Ok(Some(RkFrom::After(rk))),
+        Some(rk) => Ok(Some(RkFrom::After(rk.copy(alloc)?))),
     }
 }
 

@@ -20,6 +20,7 @@ use Rattle.mt_meta.specs.Sound.{IsSound}
 use Rattle.mt_meta.specs.Modes.{Mode, Empty, AtOld, Prepared, Copying, Overlaid, Settled, NewOnly, Broken, mode}
 use Rattle.mt_meta.specs.Steps.{with_old, with_new, PairMeans}
 use Rattle.mt_meta.proofs.ModeLaws.{IsWhole, old_in, new_in, whole, says}
+use Rattle.mt_meta.proofs.ReadLaws.{marker_read}
 use Rattle.mt_query_plan.specs.declared.place.AfterOld.{AfterOld}
 use Rattle.mt_query_plan.specs.declared.place.AfterOld.TheVariants.{Turned, Closed, Moved}
 use Rattle.mt_query_plan.specs.declared.place.Place.{Place}
@@ -28,7 +29,6 @@ use Rattle.mt_query_plan.specs.declared.call.QueryProgress.TheVariants.{More}
 use Rattle.mt_query_plan.specs.Ranges.{range_of}
 use Rattle.mt_query_plan.specs.Queries.{Lead, again, on, answered, asks, marker_says, saw_old, phase_says, saw_new, lead_of, Comes, Absorbs}
 use Rattle.mt_query_plan.specs.Alone.{AfterStands, StandsOn, turns_before}
-use Rattle.mt_query_plan.proofs.OnReads.{marker_read}
 
 -- ---- the markers of a sound pair
 

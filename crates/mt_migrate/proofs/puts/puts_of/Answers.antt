@@ -1,6 +1,7 @@
 use Rattle.std.proofs.Common.{◌∷◌, ◌++◌, [], List, ap, sym, subst, ◌∙◌}
 use Rattle.mt_chain.specs.declared.row.StoredRow.{StoredRow}
-use Rattle.mt_migrate.specs.Chunks.{put_at, rows_past, with_put}
+use Rattle.mt_chain.specs.TwoLists.{rows_past}
+use Rattle.mt_migrate.specs.Chunks.{put_at, with_put}
 use Rattle.mt_migrate.proofs.Merging.{Merged, merge_start, merge_more, pushed}
 use Rattle.mt_migrate.proofs.puts.puts_of.Goals as goal
 

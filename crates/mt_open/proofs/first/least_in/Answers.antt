@@ -1,6 +1,6 @@
 use Rattle.std.proofs.Common.{◌≡◌, ◌<◌, ◌≤◌, length, get_or, subst, arith}
 use Rattle.mt_chain.specs.Rows.{Rows}
-use Rattle.mt_open.specs.Damage.{contents_of}
+use Rattle.mt_meta.specs.Steps.{contents_of}
 use Rattle.mt_open.specs.Holdings.{pair_in}
 use Rattle.mt_open.proofs.LeastLaws.{at_found, least_none, least_some}
 use Rattle.mt_open.proofs.first.least_in.Goals as goal

@@ -1,5 +1,5 @@
 use Rattle.mt_open.specs.Holdings.{pair_in}
-use Rattle.mt_open.specs.Damage.{contents_of}
+use Rattle.mt_meta.specs.Steps.{contents_of}
 use Rattle.mt_open.proofs.LeastLaws.{NoneBefore}
 use Rattle.mt_open.proofs.first.least_in.Given as goal
 

@@ -1,9 +1,9 @@
 -- What the rows of a range say of the store, up to where the reading ends.
-use Rattle.std.proofs.Common.{◌≡◌, ℕ, zero, suc, ◌≤◌, Bool, true, false, cond, ◌&&◌, nat_lt, List, [], ◌∷◌, map, length, take, filter, Option, Some, None, refl, sym, ap, subst, ◌∙◌, arith, inl, inr, bytes_eq, Less, Equal}
+use Rattle.std.proofs.Common.{◌≡◌, ℕ, zero, suc, ◌-◌, ◌≤◌, Bool, true, false, cond, ◌&&◌, nat_lt, List, [], ◌∷◌, map, length, take, filter, Option, Some, None, refl, sym, ap, subst, ◌∙◌, arith, inl, inr, bytes_eq, Less, Equal}
 use Rattle.std.specs.Prelude.{option_map}
 use Rattle.std.proofs.lemmas.Bool.{and_parts}
 use Rattle.std.proofs.lemmas.Bool.Decides.{nat_tests}
-use Rattle.std.specs.List.{AllByRecursion}
+use Rattle.std.specs.List.{AllByRecursion, slice_get}
 use Rattle.std.specs.List.Sorted.{IsStrictlySortedBy}
 use Rattle.std.specs.Ordering.{is_lt, is_le, is_eq}
 use Rattle.std.specs.Cmp.{tied_itself}
@@ -14,19 +14,18 @@ use Rattle.mt_model.specs.Key.{key_cmp}
 use Rattle.mt_chain.specs.declared.row.Stored.{Stored}
 use Rattle.mt_chain.specs.declared.row.StoredRow.{StoredRow}
 use Rattle.mt_chain.specs.declared.query.Range.{Range}
-use Rattle.mt_chain.specs.Rows.{Rows, RisingRows, key_at, are_rising, row_at, row_in, shown, is_upto, is_within, rows_within}
+use Rattle.mt_chain.specs.Rows.{Rows, RisingRows, key_at, are_rising, row_at, row_in, last_key, read_end, shown, is_upto, is_within, rows_within}
 use Rattle.mt_chain.proofs.KeyLaws.{is_tied, text_true, text_same}
 use Rattle.mt_chain.proofs.OrderLaws.{lt_less, key_less}
 use Rattle.mt_chain.proofs.SearchLaws.{head_below, rest_rising}
-use Rattle.mt_migrate.specs.Chunks.{last_key, end_of}
-use Rattle.mt_migrate.proofs.Merging.{text_cmp, le_apart}
+use Rattle.mt_chain.proofs.TextOrder.{text_cmp, le_apart}
 
 abbrev pub Entry : Type 0
 Entry = Key × Stored
 
 -- the row is one of the partition, in the range
-abbrev in_range : List ℕ → Range → Entry → Bool
-in_range pk range e = bytes_eq pk e.0.pk && is_within range e.0.rk
+abbrev lies_in : List ℕ → Range → Entry → Bool
+lies_in pk range e = bytes_eq pk e.0.pk && is_within range e.0.rk
 
 here : (e : Entry) (rows : Rows) (pk rk : List ℕ) → row_at (e ∷ rows) pk rk ≡ cond (bytes_eq pk e.0.pk && bytes_eq rk e.0.rk) (Some e.1) (row_at rows pk rk)
 here e rows pk rk = ap (λ b. cond b (Some e.1) (row_at rows pk rk)) (is_tied (key_at pk rk) e.0)
@@ -35,21 +34,21 @@ here e rows pk rk = ap (λ b. cond b (Some e.1) (row_at rows pk rk)) (is_tied (k
 pub in_whole : (rows : Rows) (pk : List ℕ) (range : Range) (rk : List ℕ) → is_within range rk ≡ true → row_in (rows_within rows pk range) rk ≡ option_map (shown rk) (row_at rows pk rk)
 in_whole [] pk range rk h = refl
 in_whole (e ∷ rows) pk range rk h = go (in_whole rows pk range rk h) (bytes_eq pk e.0.pk) (bytes_eq rk e.0.rk) refl refl where
-  skip : (b : Bool) → bytes_eq rk e.0.rk ≡ false → row_in (rows_within rows pk range) rk ≡ option_map (shown rk) (row_at rows pk rk) → row_in (map (λ f. shown f.0.rk f.1) (cond b (e ∷ filter (in_range pk range) rows) (filter (in_range pk range) rows))) rk ≡ option_map (shown rk) (row_at rows pk rk)
+  skip : (b : Bool) → bytes_eq rk e.0.rk ≡ false → row_in (rows_within rows pk range) rk ≡ option_map (shown rk) (row_at rows pk rk) → row_in (map (λ f. shown f.0.rk f.1) (cond b (e ∷ filter (lies_in pk range) rows) (filter (lies_in pk range) rows))) rk ≡ option_map (shown rk) (row_at rows pk rk)
   skip true f r = ap (λ b. cond b (Some (shown e.0.rk e.1)) (row_in (rows_within rows pk range) rk)) f ∙ r
   skip false f r = r
 
   go : row_in (rows_within rows pk range) rk ≡ option_map (shown rk) (row_at rows pk rk) → (a b : Bool) → bytes_eq pk e.0.pk ≡ a → bytes_eq rk e.0.rk ≡ b → row_in (rows_within (e ∷ rows) pk range) rk ≡ option_map (shown rk) (row_at (e ∷ rows) pk rk)
   go r false b ea eb =
-      ap (λ x. row_in (map (λ f. shown f.0.rk f.1) (cond (x && is_within range e.0.rk) (e ∷ filter (in_range pk range) rows) (filter (in_range pk range) rows))) rk) ea
+      ap (λ x. row_in (map (λ f. shown f.0.rk f.1) (cond (x && is_within range e.0.rk) (e ∷ filter (lies_in pk range) rows) (filter (lies_in pk range) rows))) rk) ea
       ∙ r ∙ ap (option_map (shown rk)) (sym (here e rows pk rk ∙ ap (λ x. cond (x && bytes_eq rk e.0.rk) (Some e.1) (row_at rows pk rk)) ea))
   go r true false ea eb =
-      skip (in_range pk range e) eb r
+      skip (lies_in pk range e) eb r
       ∙ ap (option_map (shown rk)) (sym (here e rows pk rk ∙ ap (λ x. cond (x && bytes_eq rk e.0.rk) (Some e.1) (row_at rows pk rk)) ea ∙ ap (λ x. cond x (Some e.1) (row_at rows pk rk)) eb))
   go r true true ea eb =
       let same : rk ≡ e.0.rk = text_true rk e.0.rk eb in
-      let passes : in_range pk range e ≡ true = ap (λ x. x && is_within range e.0.rk) ea ∙ ap (is_within range) (sym same) ∙ h in
-      ap (λ x. row_in (map (λ f. shown f.0.rk f.1) (cond x (e ∷ filter (in_range pk range) rows) (filter (in_range pk range) rows))) rk) passes
+      let passes : lies_in pk range e ≡ true = ap (λ x. x && is_within range e.0.rk) ea ∙ ap (is_within range) (sym same) ∙ h in
+      ap (λ x. row_in (map (λ f. shown f.0.rk f.1) (cond x (e ∷ filter (lies_in pk range) rows) (filter (lies_in pk range) rows))) rk) passes
       ∙ ap (λ x. cond x (Some (shown e.0.rk e.1)) (row_in (rows_within rows pk range) rk)) eb
       ∙ ap (λ k. Some (shown k e.1)) (sym same)
       ∙ ap (option_map (shown rk)) (sym (here e rows pk rk ∙ ap (λ x. cond (x && bytes_eq rk e.0.rk) (Some e.1) (row_at rows pk rk)) ea ∙ ap (λ x. cond x (Some e.1) (row_at rows pk rk)) eb))
@@ -59,7 +58,7 @@ in_whole (e ∷ rows) pk range rk h = go (in_whole rows pk range rk h) (bytes_eq
 -- later rows of the same partition have greater row keys
 within_below : (x : Key) (rows : Rows) (pk : List ℕ) (range : Range) → below_all key_cmp x rows ≡ true → pk ≡ x.pk → AllByRecursion (λ k. text_cmp x.rk k ≡ Less) (map (λ (r : StoredRow). r.rk) (rows_within rows pk range))
 within_below x [] pk range h same = tt
-within_below x (f ∷ rows) pk range h same = go (within_below x rows pk range parts.1 same) (in_range pk range f) refl where
+within_below x (f ∷ rows) pk range h same = go (within_below x rows pk range parts.1 same) (lies_in pk range f) refl where
   parts : (is_lt (key_cmp x f.0) ≡ true) × (below_all key_cmp x rows ≡ true)
   parts = and_parts (is_lt (key_cmp x f.0)) (below_all key_cmp x rows) h
 
@@ -69,16 +68,16 @@ within_below x (f ∷ rows) pk range h same = go (within_below x rows pk range p
     | inr both ↦ both.1
   ]
 
-  go : AllByRecursion (λ k. text_cmp x.rk k ≡ Less) (map (λ (r : StoredRow). r.rk) (rows_within rows pk range)) → (b : Bool) → in_range pk range f ≡ b
-      → AllByRecursion (λ k. text_cmp x.rk k ≡ Less) (map (λ (r : StoredRow). r.rk) (map (λ e. shown e.0.rk e.1) (cond b (f ∷ filter (in_range pk range) rows) (filter (in_range pk range) rows))))
+  go : AllByRecursion (λ k. text_cmp x.rk k ≡ Less) (map (λ (r : StoredRow). r.rk) (rows_within rows pk range)) → (b : Bool) → lies_in pk range f ≡ b
+      → AllByRecursion (λ k. text_cmp x.rk k ≡ Less) (map (λ (r : StoredRow). r.rk) (map (λ e. shown e.0.rk e.1) (cond b (f ∷ filter (lies_in pk range) rows) (filter (lies_in pk range) rows))))
   go rest true e = (less (and_parts (bytes_eq pk f.0.pk) (is_within range f.0.rk) e).0, rest)
   go rest false e = rest
 
 pub rising_within : (rows : Rows) (pk : List ℕ) (range : Range) → are_rising rows ≡ true → RisingRows (rows_within rows pk range)
 unfolding IsStrictlySortedBy
 rising_within [] pk range h = tt
-rising_within (e ∷ rows) pk range h = go (rising_within rows pk range (rest_rising e rows h)) (in_range pk range e) refl where
-  go : RisingRows (rows_within rows pk range) → (b : Bool) → in_range pk range e ≡ b → RisingRows (map (λ f. shown f.0.rk f.1) (cond b (e ∷ filter (in_range pk range) rows) (filter (in_range pk range) rows)))
+rising_within (e ∷ rows) pk range h = go (rising_within rows pk range (rest_rising e rows h)) (lies_in pk range e) refl where
+  go : RisingRows (rows_within rows pk range) → (b : Bool) → lies_in pk range e ≡ b → RisingRows (map (λ f. shown f.0.rk f.1) (cond b (e ∷ filter (lies_in pk range) rows) (filter (lies_in pk range) rows)))
   go rest true t = (within_below e.0 rows pk range (head_below e rows h) (text_true pk e.0.pk (and_parts (bytes_eq pk e.0.pk) (is_within range e.0.rk) t).0), rest)
   go rest false t = rest
 
@@ -134,7 +133,7 @@ none (suc n) [] low last more = (let x : nat_lt (suc n) 0 ≡ false = grind (ari
 none (suc n) (x ∷ rows) low last more = has_last x (take n rows) last
 
 -- up to where the reading ends, the rows that were read are those of the range
-pub up_to_end : (n : ℕ) (rows : List StoredRow) (rk : List ℕ) → 1 ≤ n → RisingRows rows → is_upto (end_of (record { rows = take n rows; more = nat_lt n (length rows) })) rk ≡ true → row_in (take n rows) rk ≡ row_in rows rk
+pub up_to_end : (n : ℕ) (rows : List StoredRow) (rk : List ℕ) → 1 ≤ n → RisingRows rows → is_upto (read_end (take n rows) (nat_lt n (length rows))) rk ≡ true → row_in (take n rows) rk ≡ row_in rows rk
 up_to_end n rows rk some rising upto = go (nat_lt n (length rows)) refl upto where
   by_last : (end : Option (List ℕ)) → last_key (take n rows) ≡ end → nat_lt n (length rows) ≡ true → is_upto end rk ≡ true → row_in (take n rows) rk ≡ row_in rows rk
   by_last (Some k) last more le = up_to_last n rows k rk rising last le
@@ -177,14 +176,23 @@ members (e ∷ rows) pk range h = go (members rows pk range (rest_rising e rows 
   this : bytes_eq pk e.0.pk ≡ true → IsRowOf (e ∷ rows) pk (shown e.0.rk e.1)
   this t = record { row = e.1; there = here e rows pk e.0.rk ∙ ap (λ b. cond (b && bytes_eq e.0.rk e.0.rk) (Some e.1) (row_at rows pk e.0.rk)) t ∙ ap (λ b. cond b (Some e.1) (row_at rows pk e.0.rk)) (text_same e.0.rk); props = refl; tag = refl }
 
-  by_range : AllByRecursion (IsRowOf (e ∷ rows) pk) (rows_within rows pk range) → (a : Bool) → in_range pk range e ≡ a → AllByRecursion (IsRowOf (e ∷ rows) pk) (map (λ f. shown f.0.rk f.1) (cond a (e ∷ filter (in_range pk range) rows) (filter (in_range pk range) rows)))
+  by_range : AllByRecursion (IsRowOf (e ∷ rows) pk) (rows_within rows pk range) → (a : Bool) → lies_in pk range e ≡ a → AllByRecursion (IsRowOf (e ∷ rows) pk) (map (λ f. shown f.0.rk f.1) (cond a (e ∷ filter (lies_in pk range) rows) (filter (lies_in pk range) rows)))
   by_range rest true t = (this (and_parts (bytes_eq pk e.0.pk) (is_within range e.0.rk) t).0, rest)
   by_range rest false t = rest
 
   go : AllByRecursion (IsRowOf rows pk) (rows_within rows pk range) → (b : Bool) → bytes_eq pk e.0.pk ≡ b → AllByRecursion (IsRowOf (e ∷ rows) pk) (rows_within (e ∷ rows) pk range)
-  go rest b t = by_range (lift e rows pk (rows_within rows pk range) (apart b t) rest) (in_range pk range e) refl
+  go rest b t = by_range (lift e rows pk (rows_within rows pk range) (apart b t) rest) (lies_in pk range e) refl
 
 pub all_taken : (P : StoredRow → Type 0) (n : ℕ) (xs : List StoredRow) → AllByRecursion P xs → AllByRecursion P (take n xs)
 all_taken P zero xs h = tt
 all_taken P (suc n) [] h = tt
 all_taken P (suc n) (x ∷ xs) h = (h.0, all_taken P n xs h.1)
+
+-- ---- the last row
+
+pub last_get : (xs : List StoredRow) → option_map (λ (r : StoredRow). r.rk) (slice_get xs (length xs - 1)) ≡ last_key xs
+last_get [] = refl
+last_get (x ∷ xs) = let e : length (x ∷ xs) - 1 ≡ length xs = omega arith in ap (λ i. option_map (λ (r : StoredRow). r.rk) (slice_get (x ∷ xs) i)) e ∙ last_is x xs where
+  last_is : (x : StoredRow) (xs : List StoredRow) → option_map (λ (r : StoredRow). r.rk) (slice_get (x ∷ xs) (length xs)) ≡ last_key (x ∷ xs)
+  last_is x [] = refl
+  last_is x (y ∷ ys) = last_is y ys

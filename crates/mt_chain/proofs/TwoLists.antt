@@ -1,66 +1,16 @@
 -- The first key of two lists of rows that rise, and what is left past it.
-use Rattle.std.proofs.Common.{◌≡◌, ℕ, ◌+◌, ◌≤◌, Bool, true, false, cond, ◌||◌, List, [], ◌∷◌, map, length, Some, None, refl, sym, ap, subst, ◌∙◌, arith, inl, inr, bytes_eq, Less, Equal, Greater, Ordering}
+use Rattle.std.proofs.Common.{◌≡◌, ℕ, ◌+◌, ◌≤◌, Bool, true, false, cond, ◌||◌, List, [], ◌∷◌, map, length, Some, None, refl, sym, ap, subst, ◌∙◌, arith, inl, inr, bytes_eq, Less, Equal}
 use Rattle.std.proofs.lemmas.Bool.{or_cases}
 use Rattle.std.specs.List.{list_any, AllByRecursion}
 use Rattle.std.specs.List.Sorted.{IsStrictlySortedBy}
-use Rattle.std.specs.Ordering.{nat_cmp, is_le, is_eq, ordering_reverse}
+use Rattle.std.specs.Ordering.{is_le, is_eq}
 use Rattle.std.specs.Cmp.{tied_itself}
-use Rattle.std.specs.Cmp.Lexicographic.{slice_cmp, nat_list_cmp_total, texts_ties}
+use Rattle.std.specs.Cmp.Lexicographic.{nat_list_cmp_total, texts_ties}
 use Rattle.mt_chain.specs.declared.row.StoredRow.{StoredRow}
 use Rattle.mt_chain.specs.Rows.{RisingRows, row_in}
+use Rattle.mt_chain.specs.TwoLists.{first_key, first_row, rows_past}
 use Rattle.mt_chain.proofs.KeyLaws.{text_true, text_same}
-use Rattle.mt_query_plan.specs.Answers.{first_key, first_row, rows_past}
-
-abbrev pub text_cmp : List ℕ → List ℕ → Ordering
-text_cmp = slice_cmp nat_cmp
-
--- ---- texts
-
-pub or_left : (a b : Bool) → a ≡ true → (a || b) ≡ true
-or_left a b e = ap (λ t. t || b) e
-
-pub or_right : (a b : Bool) → b ≡ true → (a || b) ≡ true
-or_right true b e = refl
-or_right false b e = e
-
-pub or_neither : (a b : Bool) → (a || b) ≡ false → (a ≡ false) × (b ≡ false)
-or_neither true b e = absurd (let x = e in cc)
-or_neither false b e = (refl, e)
-
-pub text_equal : (a b : List ℕ) → text_cmp a b ≡ Equal → a ≡ b
-text_equal a b e = text_true a b (texts_ties a b ∙ ap is_eq e)
-
--- of two texts that differ the one that is not above the other is below it
-pub le_apart : (a b : List ℕ) → is_le (text_cmp a b) ≡ true → bytes_eq b a ≡ false → text_cmp a b ≡ Less
-le_apart a b le apart = go (text_cmp a b) refl le where
-  go : (o : Ordering) → text_cmp a b ≡ o → is_le o ≡ true → text_cmp a b ≡ Less
-  go Less e le = e
-  go Equal e le = absurd (let same = text_equal a b e in let x : true ≡ false = sym (text_same b) ∙ ap (bytes_eq b) (sym same) ∙ apart in cc)
-  go Greater e le = absurd (let x = le in cc)
-
-le_itself : (a : List ℕ) → is_le (text_cmp a a) ≡ true
-le_itself a = ap is_le (tied_itself nat_list_cmp_total a)
-
-pub not_le : (a b : List ℕ) → is_le (text_cmp a b) ≡ false → text_cmp b a ≡ Less
-not_le a b h = go (text_cmp a b) refl h where
-  go : (o : Ordering) → text_cmp a b ≡ o → is_le o ≡ false → text_cmp b a ≡ Less
-  go Less e h = absurd (let x = h in cc)
-  go Equal e h = absurd (let x = h in cc)
-  go Greater e h = nat_list_cmp_total.antisymm b a ∙ ap ordering_reverse e
-
-le_less : (a b c : List ℕ) → is_le (text_cmp a b) ≡ true → text_cmp b c ≡ Less → text_cmp a c ≡ Less
-le_less a b c p q = go (text_cmp a b) refl p where
-  go : (o : Ordering) → text_cmp a b ≡ o → is_le o ≡ true → text_cmp a c ≡ Less
-  go Less e p = nat_list_cmp_total.trans a b c e q
-  go Equal e p = subst (λ x. text_cmp x c ≡ Less) (sym (text_equal a b e)) q
-  go Greater e p = absurd (let x = p in cc)
-
-pub le_trans : (a b c : List ℕ) → is_le (text_cmp a b) ≡ true → is_le (text_cmp b c) ≡ true → is_le (text_cmp a c) ≡ true
-le_trans a b c p q = go (text_cmp b c) refl q where
-  go : (o : Ordering) → text_cmp b c ≡ o → is_le o ≡ true → is_le (text_cmp a c) ≡ true
-  go Less e q = ap is_le (le_less a b c p e)
-  go Equal e q = subst (λ x. is_le (text_cmp a x) ≡ true) (text_equal b c e) p
-  go Greater e q = absurd (let x = q in cc)
+use Rattle.mt_chain.proofs.TextOrder.{text_cmp, or_left, or_right, le_apart, le_itself, not_le, le_trans}
 
 -- ---- the keys of rows
 
