@@ -2,3 +2,4 @@ pub mod RangeLaws
 pub mod WalkLaws
 pub mod CallLaws
 pub mod QueryLaw
+pub mod AloneLaws

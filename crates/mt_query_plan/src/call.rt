@@ -1,6 +1,7 @@
 //! The query of one partition.
-ghost use Rattle.std.specs.Prelude.{◌≡◌, IfOk, option_copied};
+ghost use Rattle.std.specs.Prelude.{◌≡◌, ◌^◌, ◌-◌, min, IfOk, option_copied};
 ghost use Rattle.mt_chain.specs.Asks.{CanAsk, FitsAsk};
+ghost use Rattle.mt_history.specs.Weight.{need_of_query};
 ghost use Rattle.mt_query_plan.specs.Queries.{first_place, asks, Absorbs};
 
 use crate::place::{AfterOld, Place};
@@ -8,6 +9,7 @@ use crate::range::read;
 use crate::saw::{Seen, see};
 use mt_chain::{Side, StoreAsk, StoreReply};
 use mt_filter::Filter;
+use mt_history::query_need;
 use mt_model::{Entities, NoMemory, Text};
 use std::alloc::Global;
 use std::marker::Model;
@@ -72,6 +74,13 @@ impl QueryCall {
         ensures { option_copied result ≡ self.now.filter }
     {
         self.filter.as_ref()
+    }
+
+    /// The weight of the entry that the query leaves, in bytes, or the greatest number.
+    pub fn need(&self) -> u64
+        ensures { result ≡ min (2 ^ 64 - 1) (need_of_query self.now.pk self.now.filter) }
+    {
+        query_need(&self.pk, &self.filter)
     }
 
     /// The partition and the filter, which takes no memory.

@@ -19,8 +19,8 @@ pub enum Past {
     Old(Phase),
     New(NewPhase),
 
-    /// The marker of old, of this tag, turned to new.
-    Turned(u64),
+    /// The marker of old, of this tag, turned to that phase.
+    Turned(Phase, u64),
 
     /// A row of that key with the property `Age`.
     Row(&'static str, i32),
@@ -42,7 +42,7 @@ pub const SEEN: Tag = Tag { store: 0, n: 2 };
 pub const TURNED: [Past; 3] = [
     Past::Old(Phase::UseOld),
     Past::Row("r", 40),
-    Past::Turned(1),
+    Past::Turned(Phase::PreferNew, 1),
 ];
 
 pub const FILLING: Past = Past::New(NewPhase::Filling);
@@ -126,8 +126,8 @@ fn undergo(alloc: Global, keeper: &mut MemKeeper, past: Past) -> Result<(), Fail
     match past {
         Past::Old(phase) => insert(alloc, keeper, MARKER_KEY, old_marker(alloc, phase)?),
         Past::New(phase) => insert(alloc, keeper, MARKER_KEY, new_marker(alloc, phase)?),
-        Past::Turned(n) => {
-            let marker = old_marker(alloc, Phase::PreferNew)?;
+        Past::Turned(phase, n) => {
+            let marker = old_marker(alloc, phase)?;
             replace(alloc, keeper, MARKER_KEY, marker, n)
         }
         Past::Row(rk, age) => insert(alloc, keeper, rk, one(alloc, "Age", age)?),

@@ -20,10 +20,9 @@ use Rattle.mt_history.specs.declared.entry.Entry.{Entry}
 use Rattle.mt_history.specs.declared.model.Reply.{Reply}
 use Rattle.mt_history.specs.Window.{after_entry, table_at_end, with_one}
 use Rattle.mt_history.specs.Replies.{Replies, ShowsRows, refusal_reply, selected, kept_if, is_matched}
-use Rattle.mt_history.specs.Legal.{IsLegal, IsNextNumber, IsTrueAtEnd, IsGone, IsGap, HasTag, numbers_of, entry_tags, all_tags, tags_written}
+use Rattle.mt_history.specs.Legal.{IsLegal, IsNextNumber, IsTrueAtEnd, IsGone, IsGap, HasTag, numbers_of, entry_tags, all_tags}
 use Rattle.mt_history.proofs.WindowLaws.{replays_join, legal_grows}
 use Rattle.mt_meta.specs.Logical.{Pair}
-use Rattle.mt_meta.specs.Sound.{IsSound}
 use Rattle.mt_meta.specs.declared.fact.Fact.{Fact}
 use Rattle.mt_meta.specs.Facts.{Grows}
 use Rattle.mt_meta.specs.Steps.{logical_table, IsGiven, ActorStep}

@@ -14,7 +14,6 @@ use Rattle.mt_history.specs.Legal.{numbers_of}
 use Rattle.mt_history.proofs.CountLaws.{last_more, numbers_more}
 use Rattle.mt_history.specs.Kept.{Kept, has_room}
 use Rattle.mt_history.specs.Weight.{total_weight}
-use Rattle.mt_history.specs.declared.entry.What.{What}
 use Rattle.mt_world.specs.Worlds.{after_last, number_due, number_in, next_number, is_fault, faults_in}
 use Rattle.mt_world.specs.Logs.{Log, IsLog, IsTagged, raised, one_if, number_of_next, faults_with}
 

@@ -1,5 +1,5 @@
 -- Two stores that are a sound pair are a world without history, whose table at opening is what they show.
-use Rattle.std.proofs.Common.{◌≡◌, ◌∙◌, ◌⊎◌, ℕ, ◌+◌, ◌≤◌, Bool, true, false, cond, ◌==◌, List, [], ◌∷◌, length, refl, sym, ap, subst, arith, inl, inr, bytes_eq, All, IsTrue, Option, Some, None, Ok, IfSome}
+use Rattle.std.proofs.Common.{◌≡◌, ◌∙◌, ◌⊎◌, ℕ, ◌+◌, ◌≤◌, Bool, true, false, cond, ◌==◌, List, [], ◌∷◌, length, refl, sym, ap, subst, arith, inl, inr, bytes_eq, All, Option, Some, None, Ok, IfSome}
 use Rattle.std.specs.Prelude.{option_map, codes}
 use Rattle.std.proofs.lemmas.Bool.{and_parts}
 use Rattle.std.proofs.lemmas.Bool.Decides.{nat_tests}
@@ -8,7 +8,7 @@ use Rattle.mt_model.specs.declared.tag.Tag.{Tag}
 use Rattle.mt_model.specs.declared.name.Hidden.TheVariants as hidden
 use Rattle.mt_model.specs.Props.{hidden_text}
 use Rattle.mt_chain.specs.declared.row.Stored.{Stored}
-use Rattle.mt_chain.specs.Rows.{Rows, row_at, are_rising}
+use Rattle.mt_chain.specs.Rows.{Rows, row_at}
 use Rattle.mt_chain.specs.StoreCall.{Contents}
 use Rattle.mt_chain.specs.Store.{Store}
 use Rattle.mt_chain.specs.Table.{IsListing, table_of, rows_of}

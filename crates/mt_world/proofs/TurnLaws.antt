@@ -1,5 +1,5 @@
 -- A turn keeps the world, and does what it is to do: proved once for any actor whose step is one of the law for every step.
-use Rattle.std.proofs.Common.{◌≡◌, ◌∙◌, ◌⊎◌, ℕ, ◌+◌, ◌-◌, ◌^◌, ◌≤◌, ◌<◌, Bool, true, false, ◌&&◌, List, ◌∷◌, refl, sym, ap, subst, arith, inl, inr, IsTrue, Option, Some, None, Result, Ok, Err, if◌then◌else◌}
+use Rattle.std.proofs.Common.{◌≡◌, ◌∙◌, ◌⊎◌, ℕ, ◌+◌, ◌-◌, ◌^◌, ◌≤◌, ◌<◌, Bool, true, false, List, refl, sym, ap, subst, arith, inl, inr, IsTrue, Option, Some, None, Result, Ok, Err}
 use Rattle.std.specs.Prelude.{IsSome, not}
 use Rattle.mt_model.specs.declared.entity.Entity.{Entity}
 use Rattle.mt_chain.specs.declared.ask.Side.{Side}
@@ -27,6 +27,11 @@ use Rattle.mt_batch_plan.specs.declared.call.BatchProgress.TheVariants as batch
 use Rattle.mt_batch_plan.specs.Calls.{Call, CallFits, Asks, place_facts, call_facts}
 use Rattle.mt_batch_plan.specs.BatchSteps.{Does}
 use Rattle.mt_batch_plan.proofs.BatchLaw.{batch_law}
+use Rattle.mt_query_plan.specs.declared.call.QueryProgress.{QueryProgress}
+use Rattle.mt_query_plan.specs.declared.call.QueryProgress.TheVariants as query
+use Rattle.mt_query_plan.specs.Queries as queries
+use Rattle.mt_query_plan.specs.QuerySteps as query_steps
+use Rattle.mt_query_plan.proofs.QueryLaw.{query_law}
 use Rattle.mt_world.specs.declared.actor.ClientCall.TheVariants as client
 use Rattle.mt_world.specs.declared.actor.Actor.{Actor}
 use Rattle.mt_world.specs.declared.actor.Actor.TheVariants.{Client}
@@ -34,7 +39,7 @@ use Rattle.mt_world.specs.declared.actor.Progress.{Progress}
 use Rattle.mt_world.specs.declared.actor.TurnFault.{TurnFault}
 use Rattle.mt_world.specs.declared.actor.TurnFault.TheVariants.{StoreFault, HistoryFull, NoMemory}
 use Rattle.mt_world.specs.Worlds.{WorldState, pair_of, ForPair, Tells, IsTrueOf, AreTrueOf, KeepsApart, table_now, next_number, number_due, faults_in, entry_of, IsReplayed, AreCounted, IsWorld}
-use Rattle.mt_world.specs.Moves.{NewEntry, Move, BatchMoves, batch_move, ActorFits, ActorAsks, ActorMoves, actor_facts, need_of, after_fault, fault_entry, retired_by}
+use Rattle.mt_world.specs.Moves.{NewEntry, Move, BatchMoves, batch_move, QueryMoves, query_move, ActorFits, ActorAsks, ActorMoves, actor_facts, need_of, after_fault, fault_entry, retired_by}
 use Rattle.mt_world.specs.Logs.{raised, Adds, faults_after}
 use Rattle.mt_world.specs.Turns.{Stage, log_of, stage_of, CallsOn, OneCall, NoCall, CalledInVain, Moves, IsCalledOn, RiseTogether, TakesTurn, TakesSomeTurn, RepliesAt, Knows, IsSameWorld, Turns, Turned}
 use Rattle.mt_world.proofs.PairLaws.{told_before, for_pair, at_pair, same_pair, IsQuiet, quiet_tells, Before, before, called_tells, failed_quiet, failed_rose, IsCalled, called, not_called, stays_same}
@@ -81,10 +86,48 @@ batch_step call ask answer move p q retired fits asks means moves sound knows = 
     does = batch_does moves.to moves.said p q (subst (λ ops. Does ops moves.said p q) (sym moves.same) s.does);
   }
 
+-- what a query's step does, as the entry that it leaves says it
+query_does : (to : queries.Call) (said : QueryProgress) (p q : Pair) → query_steps.Does to.pk to.filter said p q → EntryDoes (query_move to said).entry p q
+query_does to query.More p q does = λ key. ap (λ x. logical_table x key) does
+query_does to (query.Rows rows) p q does = ((λ key. ap (λ x. logical_table x key) does.0), does.1)
+
+-- the same query at another place
+abbrev same_query : queries.Call → queries.Call → Type 0
+same_query to call = (to.pk ≡ call.pk) × (to.filter ≡ call.filter)
+
+query_knows : (said : QueryProgress) (call to : queries.Call) (q : Pair) (retired : Bool) → same_query to call → AllHold q retired (queries.place_facts call.pk call.filter to.place) → AllHold q retired (actor_facts (query_move to said).after)
+query_knows query.More call to q retired same knows = subst (λ pk. AllHold q retired (queries.place_facts pk to.filter to.place)) (sym same.0) (subst (λ f. AllHold q retired (queries.place_facts call.pk f to.place)) (sym same.1) knows)
+query_knows (query.Rows rows) call to q retired same knows = tt
+
+query_apart : (said : QueryProgress) (call to : queries.Call) (f : Fact) → same_query to call → ApartFrom f (queries.place_facts call.pk call.filter to.place) → ApartFrom f (actor_facts (query_move to said).after)
+query_apart query.More call to f same apart = subst (λ pk. ApartFrom f (queries.place_facts pk to.filter to.place)) (sym same.0) (subst (λ t. ApartFrom f (queries.place_facts call.pk t to.place)) (sym same.1) apart)
+query_apart (query.Rows rows) call to f same apart = tt
+
+query_step : (call : queries.Call) (ask : StoreAsk) (answer : StoreReply) (move : Move) (p q : Pair) (retired : Bool) → ask ≡ queries.asks call → PairMeans ask answer p q → QueryMoves call answer move
+    → IsSound p → AllHold p retired (queries.call_facts call) → ActorSteps (Client (client.Query call)) retired move p q
+query_step call ask answer move p q retired asks means moves sound knows = subst (λ m. ActorSteps (Client (client.Query call)) retired m p q) (sym moves.is) by where
+  s : query_steps.QueryStep call.pk call.filter call.place moves.to.place retired moves.said p q
+  s = query_law call.pk call.filter call.place moves.to.place ask answer moves.said p q retired sound knows asks means moves.absorbs
+
+  same : same_query moves.to call
+  same = (moves.pk, moves.filter)
+
+  by : ActorSteps (Client (client.Query call)) retired (query_move moves.to moves.said) p q
+  by = record {
+    sound = s.sound;
+    grows = s.grows;
+    knows = query_knows moves.said call moves.to q retired same s.knows;
+    apart = λ f holds apart. query_apart moves.said call moves.to f same (s.apart f holds apart);
+    stays = s.stays;
+    retires = s.retires;
+    does = query_does moves.to moves.said p q (subst (λ pk. query_steps.Does pk moves.to.filter moves.said p q) (sym moves.pk) (subst (λ f. query_steps.Does call.pk f moves.said p q) (sym moves.filter) s.does));
+  }
+
 -- each kind of actor has its line here
 pub actor_step : (a : Actor) (ask : StoreAsk) (answer : StoreReply) (move : Move) (p q : Pair) (retired : Bool) → ActorFits a → ActorAsks a ask → PairMeans ask answer p q → ActorMoves a answer move
     → IsSound p → AllHold p retired (actor_facts a) → ActorSteps a retired move p q
 actor_step (Client (client.Batch call)) ask answer move p q retired fits asks means moves sound knows = batch_step call ask answer move p q retired fits asks means moves sound knows
+actor_step (Client (client.Query call)) ask answer move p q retired fits asks means moves sound knows = query_step call ask answer move p q retired asks means moves sound knows
 actor_step (Client client.Ended) ask answer move p q retired fits asks means moves sound knows = absurd asks
 
 -- a turn that comes to nothing leaves an actor that knows nothing more than before, and the world as retired as it was
@@ -342,6 +385,10 @@ no_fault (Client (client.Batch call)) a' answer progress entry count moves = ap 
   by batch.More = refl
   by (batch.Written tags) = refl
   by (batch.Refused refusal) = refl
+no_fault (Client (client.Query call)) a' answer progress entry count moves = ap (λ (m : Move). faults_after m.entry count) moves.is ∙ by moves.said where
+  by : (said : QueryProgress) → faults_after (query_move moves.to said).entry count ≡ count
+  by query.More = refl
+  by (query.Rows rows) = refl
 no_fault (Client client.Ended) a' answer progress entry count moves = absurd moves
 
 ok_turn : (w w' : WorldState) (caller : ℕ) (a a' : Actor) (progress : Progress) (entry : Option NewEntry) → IsWorld w → Knows w a → IsFramed w a (Ok progress) w' → TakesTurn (stage_of w) caller a (Ok progress) entry (stage_of w') a' → KeptAndTurned w caller a (Ok progress) entry w' a'

@@ -1,6 +1,5 @@
 -- How an actor moves: what it asks of a store, and what becomes of it and of the history with the store's reply. Each kind of actor has its line in each definition.
-use Rattle.std.specs.Prelude.{◌≡◌, ℕ, Bool, List, [], Option, Some, None, Result, Ok, Err}
-use Rattle.mt_model.specs.declared.text.NoMemory.{NoMemory as NoMemoryOf}
+use Rattle.std.specs.Prelude.{◌≡◌, ℕ, Bool, List, [], Option, Some, None, Result, Ok}
 use Rattle.mt_chain.specs.declared.ask.StoreAsk.{StoreAsk}
 use Rattle.mt_chain.specs.declared.ask.StoreReply.{StoreReply}
 use Rattle.mt_chain.specs.Batch.{batch_weight}
@@ -8,19 +7,23 @@ use Rattle.mt_history.specs.declared.entry.What.{What}
 use Rattle.mt_history.specs.declared.entry.What.TheVariants as what
 use Rattle.mt_history.specs.declared.model.Reply.{Reply}
 use Rattle.mt_history.specs.declared.model.Reply.TheVariants as reply
+use Rattle.mt_history.specs.Weight.{need_of_query}
 use Rattle.mt_meta.specs.declared.fact.Fact.{Fact}
 use Rattle.mt_batch_plan.specs.declared.place.Place.TheVariants.{ReadOld}
 use Rattle.mt_batch_plan.specs.declared.call.BatchProgress.{BatchProgress}
 use Rattle.mt_batch_plan.specs.declared.call.BatchProgress.TheVariants as batch
 use Rattle.mt_batch_plan.specs.Calls.{Call, CallFits, Asks, Absorbs, call_facts}
+use Rattle.mt_query_plan.specs.declared.call.QueryProgress.{QueryProgress}
+use Rattle.mt_query_plan.specs.declared.call.QueryProgress.TheVariants as query
+use Rattle.mt_query_plan.specs.declared.place.Place.TheVariants as query_place
+use Rattle.mt_query_plan.specs.Queries as queries
 use Rattle.mt_world.specs.declared.actor.Request.{Request}
 use Rattle.mt_world.specs.declared.actor.Request.TheVariants as request
 use Rattle.mt_world.specs.declared.actor.ClientCall.{ClientCall}
 use Rattle.mt_world.specs.declared.actor.ClientCall.TheVariants as client
 use Rattle.mt_world.specs.declared.actor.Actor.{Actor}
 use Rattle.mt_world.specs.declared.actor.Actor.TheVariants.{Client}
-use Rattle.mt_world.specs.declared.actor.Answer.{Answer}
-use Rattle.mt_world.specs.declared.actor.Answer.TheVariants.{Written, Refused}
+use Rattle.mt_world.specs.declared.actor.Answer.TheVariants.{Written, Refused, Rows}
 use Rattle.mt_world.specs.declared.actor.Progress.{Progress}
 use Rattle.mt_world.specs.declared.actor.Progress.TheVariants.{More, Done}
 use Rattle.mt_world.specs.declared.actor.TurnFault.{TurnFault}
@@ -41,26 +44,31 @@ pub record Move : Type 0 where
 -- a call that has not ended
 abbrev pub CanStep : Actor → Type 0
 CanStep (Client (client.Batch call)) = Unit {0}
+CanStep (Client (client.Query call)) = Unit {0}
 CanStep (Client client.Ended) = ⊥
 
 -- what each actor keeps of itself
 abbrev pub ActorFits : Actor → Type 0
 ActorFits (Client (client.Batch call)) = CallFits call
+ActorFits (Client (client.Query call)) = Unit {0}
 ActorFits (Client client.Ended) = Unit {0}
 
 -- what an actor knows between its turns
 abbrev pub actor_facts : Actor → List Fact
 actor_facts (Client (client.Batch call)) = call_facts call
+actor_facts (Client (client.Query call)) = queries.call_facts call
 actor_facts (Client client.Ended) = []
 
 -- the room in the history that a turn needs
 abbrev pub need_of : Actor → ℕ
 need_of (Client (client.Batch call)) = batch_weight call.batch
+need_of (Client (client.Query call)) = need_of_query call.pk call.filter
 need_of (Client client.Ended) = 0
 
 -- the store call that an actor asks for
 abbrev pub ActorAsks : Actor → StoreAsk → Type 0
 ActorAsks (Client (client.Batch call)) ask = Asks call.batch call.place ask
+ActorAsks (Client (client.Query call)) ask = ask ≡ queries.asks call
 ActorAsks (Client client.Ended) ask = ⊥
 
 -- ---- how each actor moves
@@ -79,8 +87,23 @@ pub record BatchMoves (call : Call) (answer : StoreReply) (move : Move) : Type 0
   pub absorbs : Absorbs call.batch call.place answer (Ok said) to.place
   pub is : move ≡ batch_move to said
 
+-- a query goes on, or ends with an entry that has its partition and its filter, and with that entry's rows
+abbrev pub query_move : queries.Call → QueryProgress → Move
+query_move to query.More = record { progress = More; entry = None; after = Client (client.Query to) }
+query_move to (query.Rows rows) = record { progress = Done (Rows rows); entry = Some (record { what = what.Query to.pk to.filter; reply = reply.Rows rows }); after = Client client.Ended }
+
+-- it takes the reply, and goes to its next place
+pub record QueryMoves (call : queries.Call) (answer : StoreReply) (move : Move) : Type 0 where
+  pub said : QueryProgress
+  pub to : queries.Call
+  pub pk : to.pk ≡ call.pk
+  pub filter : to.filter ≡ call.filter
+  pub absorbs : queries.Absorbs call answer (Ok said) to.place
+  pub is : move ≡ query_move to said
+
 abbrev pub ActorMoves : Actor → StoreReply → Move → Type 0
 ActorMoves (Client (client.Batch call)) answer move = BatchMoves call answer move
+ActorMoves (Client (client.Query call)) answer move = QueryMoves call answer move
 ActorMoves (Client client.Ended) answer move = ⊥
 
 -- the actor after a turn that came to nothing: it ends a client's call
@@ -100,13 +123,16 @@ retired_by (Client call) r retired = retired
 -- the call of a request, at its beginning
 abbrev pub IsCallOf : Request → ClientCall → Type 0
 IsCallOf (request.Batch batch) call = call ≡ client.Batch (record { batch = batch; place = ReadOld })
+IsCallOf (request.Query pk filter) call = call ≡ client.Query (record { pk = pk; filter = filter; place = query_place.ReadOld })
 
 -- the call is at its beginning
 abbrev pub IsAtBegin : Actor → Type 0
 IsAtBegin (Client (client.Batch call)) = call.place ≡ ReadOld
+IsAtBegin (Client (client.Query call)) = call.place ≡ query_place.ReadOld
 IsAtBegin (Client client.Ended) = ⊥
 
--- the most turns that a call takes from its beginning while no other actor comes between and both stores tell: a read of each store, and a write
+-- the most turns that a call takes from its beginning while no other actor comes between and both stores tell: a read of each store, and for a batch a write
 abbrev pub turns_at_most : Actor → ℕ
 turns_at_most (Client (client.Batch call)) = 3
+turns_at_most (Client (client.Query call)) = 2
 turns_at_most (Client client.Ended) = 0

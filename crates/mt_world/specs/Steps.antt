@@ -1,9 +1,8 @@
 -- What the code's own steps of a turn answer.
-use Rattle.std.specs.Prelude.{◌≡◌, ℕ, Option, None, Result, Ok, Err}
-use Rattle.mt_model.specs.declared.text.NoMemory.{NoMemory as NoMemoryOf}
+use Rattle.std.specs.Prelude.{◌≡◌, ℕ, Option, Some, None, Result, Ok, Err}
+use Rattle.mt_chain.specs.declared.ask.CallFault.TheVariants as call_fault
+use Rattle.mt_chain.specs.declared.ask.StoreAsk.{StoreAsk}
 use Rattle.mt_chain.specs.declared.ask.StoreReply.{StoreReply}
-use Rattle.mt_batch_plan.specs.declared.place.Place.{Place}
-use Rattle.mt_batch_plan.specs.Calls.{Call, Absorbs}
 use Rattle.mt_world.specs.declared.actor.Actor.{Actor}
 use Rattle.mt_world.specs.declared.actor.Actor.TheVariants.{Client}
 use Rattle.mt_world.specs.declared.actor.ClientCall.{ClientCall}
@@ -12,7 +11,8 @@ use Rattle.mt_world.specs.declared.actor.Progress.{Progress}
 use Rattle.mt_world.specs.declared.actor.TurnFault.{TurnFault}
 use Rattle.mt_world.specs.declared.actor.TurnFault.TheVariants.{StoreFault, HistoryFull, NoMemory}
 use Rattle.mt_world.specs.Logs.{Log, Adds}
-use Rattle.mt_world.specs.Moves.{NewEntry, BatchMoves}
+use Rattle.mt_world.specs.Moves.{NewEntry, ActorMoves, after_fault, fault_entry}
+use Rattle.mt_world.specs.Turns.{Stage, OneCall, MayBeLost}
 
 -- a step of a call gives the call afterwards beside its progress; a fault ends it
 abbrev pub said_by : Result (Progress × ClientCall) TurnFault → Result Progress TurnFault
@@ -23,15 +23,22 @@ abbrev pub left_by : Result (Progress × ClientCall) TurnFault → Actor
 left_by (Ok step) = Client step.1
 left_by (Err fault) = Client client.Ended
 
--- how a batch call goes on from a reply, with the entry that it leaves; for want of memory it takes none
-abbrev pub GoesOn : Call → StoreReply → Result (Progress × ClientCall) TurnFault → Option NewEntry → Type 0
-GoesOn call answer (Ok step) entry = BatchMoves call answer (record { progress = step.0; entry = entry; after = Client step.1 })
-GoesOn call answer (Err NoMemory) entry = (none : NoMemoryOf) × (to : Place) × Absorbs call.batch call.place answer (Err none) to × (entry ≡ None)
-GoesOn call answer (Err StoreFault) entry = ⊥
-GoesOn call answer (Err HistoryFull) entry = ⊥
+-- the store call that is asked for; one that failed leaves its entry
+abbrev pub CallsStore : Stage → ℕ → StoreAsk → Result StoreReply TurnFault → Stage → Type 0
+CallsStore c caller ask (Ok answer) c' = OneCall c ask (Ok answer) c' × (c'.log ≡ c.log)
+CallsStore c caller ask (Err StoreFault) c' = OneCall c ask (Err call_fault.Failed) c' × Adds c.log caller (Some fault_entry) c'.log
+CallsStore c caller ask (Err HistoryFull) c' = ⊥
+CallsStore c caller ask (Err NoMemory) c' = OneCall c ask (Err call_fault.NoMemory) c' × (c'.log ≡ c.log)
 
--- a batch call takes a reply, and an answer leaves an entry
-pub record Answered (call : Call) (answer : StoreReply) (l : Log) (caller : ℕ) (r : Result (Progress × ClientCall) TurnFault) (l' : Log) : Type 0 where
+-- how an actor goes on from a reply, with the entry that it leaves; it has no memory only for what may be lost, and then leaves none
+abbrev pub GoesOn : Actor → StoreReply → Result Progress TurnFault → Option NewEntry → Actor → Type 0
+GoesOn a answer (Ok progress) entry a' = ActorMoves a answer (record { progress = progress; entry = entry; after = a' })
+GoesOn a answer (Err StoreFault) entry a' = ⊥
+GoesOn a answer (Err HistoryFull) entry a' = ⊥
+GoesOn a answer (Err NoMemory) entry a' = MayBeLost (Ok answer) × (entry ≡ None) × (a' ≡ after_fault a)
+
+-- an actor takes a reply, and an answer leaves an entry
+pub record Answered (a : Actor) (answer : StoreReply) (l : Log) (caller : ℕ) (r : Result Progress TurnFault) (l' : Log) (a' : Actor) : Type 0 where
   pub entry : Option NewEntry
-  pub goes : GoesOn call answer r entry
+  pub goes : GoesOn a answer r entry a'
   pub adds : Adds l caller entry l'

@@ -18,7 +18,7 @@ use Rattle.mt_world.specs.declared.actor.TurnFault.{TurnFault}
 use Rattle.mt_world.specs.declared.actor.TurnFault.TheVariants.{StoreFault, HistoryFull, NoMemory}
 use Rattle.mt_world.specs.Worlds.{WorldState, ForPair, Tells, AreTrueOf, KeepsApart, table_now}
 use Rattle.mt_world.specs.Logs.{Log, raised, Adds}
-use Rattle.mt_world.specs.Moves.{NewEntry, Move, ActorFits, ActorAsks, ActorMoves, actor_facts, need_of, after_fault, fault_entry, retired_by}
+use Rattle.mt_world.specs.Moves.{NewEntry, ActorFits, ActorAsks, ActorMoves, actor_facts, need_of, after_fault, fault_entry, retired_by}
 
 -- it is so in this world
 abbrev pub Knows : WorldState → Actor → Type 0

@@ -1,13 +1,15 @@
 -- A client's call from its beginning to its answer: turns one after the other, each with its mark.
-use Rattle.std.specs.Prelude.{◌≡◌, ℕ, ◌+◌, ◌≤◌, All, not, List, [], ◌∷◌, length, Option, Some, None, Result, Ok, Err}
+use Rattle.std.specs.Prelude.{◌≡◌, ℕ, ◌+◌, ◌≤◌, not, OnOk, IsSome, List, [], ◌∷◌, length, Option, Some, None, Result, Ok, Err}
 use Rattle.mt_chain.specs.declared.op.Op.{Op}
+use Rattle.mt_filter.specs.declared.filter.Filter.{Filter}
 use Rattle.mt_chain.specs.Batch.{batch_weight}
 use Rattle.mt_history.specs.declared.entry.What.TheVariants as what
 use Rattle.mt_history.specs.declared.model.Reply.TheVariants as reply
 use Rattle.mt_history.specs.Kept.{has_room}
+use Rattle.mt_history.specs.Weight.{need_of_query}
 use Rattle.mt_world.specs.declared.actor.Actor.{Actor}
 use Rattle.mt_world.specs.declared.actor.Answer.{Answer}
-use Rattle.mt_world.specs.declared.actor.Answer.TheVariants.{Written, Refused}
+use Rattle.mt_world.specs.declared.actor.Answer.TheVariants.{Written, Refused, Rows}
 use Rattle.mt_world.specs.declared.actor.Progress.{Progress}
 use Rattle.mt_world.specs.declared.actor.Progress.TheVariants.{More, Done}
 use Rattle.mt_world.specs.declared.actor.TurnFault.{TurnFault}
@@ -48,15 +50,27 @@ pub record EndsCall (w : WorldState) (caller : ℕ) (a : Actor) (r : Result Answ
   pub turns : Finishes marks w caller a r w'
   pub few : IsAtBegin a → Tells w' → length marks ≤ turns_at_most a
 
--- ---- the whole call of a batch
+-- ---- what a whole call comes to
+
+-- the entry of a call that broke off
+abbrev pub entry_of_fault : TurnFault → Option NewEntry
+entry_of_fault StoreFault = Some fault_entry
+entry_of_fault HistoryFull = None
+entry_of_fault NoMemory = None
 
 -- the entry that a batch leaves with its answer
 abbrev pub batch_entry : List Op → Result Answer TurnFault → Option NewEntry
 batch_entry ops (Ok (Written tags)) = Some (record { what = what.Batch ops tags; reply = reply.Written tags })
 batch_entry ops (Ok (Refused refusal)) = Some (record { what = what.Refused ops; reply = reply.Refused refusal })
-batch_entry ops (Err StoreFault) = Some fault_entry
-batch_entry ops (Err HistoryFull) = None
-batch_entry ops (Err NoMemory) = None
+batch_entry ops (Ok (Rows rows)) = None
+batch_entry ops (Err fault) = entry_of_fault fault
+
+-- and a query
+abbrev pub query_entry : List ℕ → Option Filter → Result Answer TurnFault → Option NewEntry
+query_entry pk filter (Ok (Written tags)) = None
+query_entry pk filter (Ok (Refused refusal)) = None
+query_entry pk filter (Ok (Rows rows)) = Some (record { what = what.Query pk filter; reply = reply.Rows rows })
+query_entry pk filter (Err fault) = entry_of_fault fault
 
 -- the marks of turns that found the history with that end, of which the last left this entry, or none
 abbrev pub AreMarksAt : ℕ → Option NewEntry → List Mark → Type 0
@@ -64,16 +78,24 @@ AreMarksAt place entry [] = ⊥
 AreMarksAt place entry (m ∷ []) = m ≡ record { place = place; entry = entry }
 AreMarksAt place entry (m ∷ next ∷ marks) = (m ≡ record { place = place; entry = None }) × AreMarksAt place entry (next ∷ marks)
 
--- what turns of a batch with no other caller between them come to: one entry at most, with the answer
-pub record BatchAnswers (w : WorldState) (caller : ℕ) (ops : List Op) (marks : List Mark) (r : Result Answer TurnFault) (w' : WorldState) : Type 0 where
+-- what turns of a call with no other caller between them come to: one entry at most, with the answer
+pub record CallAnswers (w : WorldState) (caller : ℕ) (need : ℕ) (entry : Option NewEntry) (marks : List Mark) (r : Result Answer TurnFault) (w' : WorldState) : Type 0 where
   pub same : IsSameWorld w w'
   pub retired : w'.retired ≡ w.retired
   pub tells : Tells w' → Tells w
-  pub full : is_full r ≡ not (has_room w.history (batch_weight ops))
-  pub marks_are : AreMarksAt (end_of w) (batch_entry ops r) marks
-  pub entries : w'.history.entries ≡ entries_with w.history.entries w.numbers caller (batch_entry ops r)
-  pub replies : RepliesAt w (batch_entry ops r) w'
+  pub full : is_full r ≡ not (has_room w.history need)
+  -- an answer leaves its entry, so no call is answered what is not its own
+  pub answered : OnOk r (IsSome entry)
+  pub marks_are : AreMarksAt (end_of w) entry marks
+  pub entries : w'.history.entries ≡ entries_with w.history.entries w.numbers caller entry
+  pub replies : RepliesAt w entry w'
   pub cause : r ≡ Err StoreFault → EitherRose w w'
   pub old_faults : w.old_store.faults ≤ w'.old_store.faults
   pub new_faults : w.new_store.faults ≤ w'.new_store.faults
   pub calls : w.calls ≤ w'.calls
+
+abbrev pub BatchAnswers : WorldState → ℕ → List Op → List Mark → Result Answer TurnFault → WorldState → Type 0
+BatchAnswers w caller ops marks r w' = CallAnswers w caller (batch_weight ops) (batch_entry ops r) marks r w'
+
+abbrev pub QueryAnswers : WorldState → ℕ → List ℕ → Option Filter → List Mark → Result Answer TurnFault → WorldState → Type 0
+QueryAnswers w caller pk filter marks r w' = CallAnswers w caller (need_of_query pk filter) (query_entry pk filter r) marks r w'

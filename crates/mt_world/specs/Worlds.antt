@@ -1,5 +1,5 @@
 -- A world as contracts see it: two stores, the table at their opening, and the history since.
-use Rattle.std.specs.Prelude.{◌≡◌, ◌⊎◌, ℕ, ◌+◌, ◌-◌, ◌^◌, ◌≤◌, Bool, true, false, All, IsTrue, IfSome, is_some, List, [], filter, length, Option, Some, None}
+use Rattle.std.specs.Prelude.{◌≡◌, ◌⊎◌, ℕ, ◌+◌, ◌-◌, ◌^◌, ◌≤◌, Bool, true, false, All, IsTrue, is_some, List, filter, length, Option, Some, None}
 use Rattle.std.specs.List.{last_or}
 use Rattle.std.specs.Map.{lookup, count_at}
 use Rattle.std.specs.Ordering.{nat_cmp, is_eq}

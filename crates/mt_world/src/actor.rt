@@ -1,6 +1,9 @@
 //! Who takes turns, and what comes of them.
 use mt_batch_plan::BatchCall;
 use mt_chain::{Refusal, Tags};
+use mt_filter::Filter;
+use mt_model::{Entities, Text};
+use mt_query_plan::QueryCall;
 use mt_rules::Batch;
 
 /// What a client asks for.
@@ -8,12 +11,16 @@ use mt_rules::Batch;
 pub enum Request {
     /// All operations of a batch at once, or none.
     Batch(Batch),
+
+    /// The rows of a partition, or those of them that a filter matches.
+    Query { pk: Text, filter: Option<Filter> },
 }
 
 /// A client's call.
 #[derive(Drop)]
 pub enum ClientCall {
     Batch(BatchCall),
+    Query(QueryCall),
 
     /// The call was answered, or broke off at its first fault.
     Ended,
@@ -34,6 +41,10 @@ pub enum Answer {
 
     /// An operation refuses the batch, and nothing changed.
     Refused(Refusal),
+
+    /// These rows were asked for, in the order of their keys: each with its visible properties and the
+    /// tag that clients see.
+    Rows(Entities),
 }
 
 /// What a turn came to.

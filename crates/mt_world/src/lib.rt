@@ -4,6 +4,7 @@
 mod actor;
 mod log;
 mod opening;
+mod query;
 mod replay;
 mod stage;
 mod world;

@@ -5,17 +5,19 @@ ghost use Rattle.mt_batch_plan.specs.Calls.{Asks, is_write};
 ghost use Rattle.mt_world.specs.Logs.{IsReady, Reserves};
 ghost use Rattle.mt_world.specs.Moves.{CanStep};
 ghost use Rattle.mt_world.specs.Turns.{CallsOn, TakesSomeTurn};
-ghost use Rattle.mt_world.specs.Steps.{Answered, said_by, left_by};
+ghost use Rattle.mt_world.specs.Steps.{CallsStore, Answered, said_by, left_by};
 ghost use Rattle.mt_chain.specs.Batch.{batch_weight};
 ghost use Rattle.mt_history.specs.Kept.{has_room};
 ghost use Rattle.mt_chain.specs.declared.ask.StoreAsk.{StoreAsk};
 
 use crate::actor::{Actor, Answer, ClientCall, Progress, TurnFault};
 use crate::log::Log;
+use crate::query;
 use mt_batch_plan::{BatchCall, BatchProgress};
 use mt_chain::{CallFault, Keeper, Side, StoreAsk, StoreReply, Tags};
 use mt_history::What;
 use mt_model::{NoMemory, Tag};
+use mt_query_plan::QueryCall;
 use std::alloc::Global;
 use std::marker::Model;
 use std::mem;
@@ -90,7 +92,7 @@ fn prepare(
 }
 
 /// What a turn of a call comes to: its progress, and the call afterwards.
-type Step = (Progress, ClientCall);
+pub type Step = (Progress, ClientCall);
 
 /// Takes a store's reply, and adds the entry of an answer.
 fn answer(
@@ -106,7 +108,7 @@ fn answer(
     requires light { IsTrue (has_room log.old.history (batch_weight call.batch)) }
     requires empty { room.items ≡ [] }
     requires room { is_write call.place ≡ true → length call.batch ≤ vec_capacity room }
-    ensures { Answered call reply log.old caller result log.new }
+    ensures { Answered (Actor.Client (ClientCall.Batch call)) reply log.old caller (said_by result) log.new (left_by result) }
 {
     match call.absorb(alloc, reply) {
         Err(NoMemory) => Err(TurnFault::NoMemory),
@@ -158,7 +160,31 @@ impl<K: Keeper> Stage<K> {
         &self.log
     }
 
-    /// One turn of a batch call: at most one store call, and then at most one entry.
+    /// Makes the store call that is asked for. One that failed leaves its entry, in memory that is in
+    /// hand.
+    fn ask_store(
+        &mut self,
+        alloc: Global,
+        caller: u32,
+        ask: StoreAsk,
+    ) -> Result<StoreReply, TurnFault>
+        requires can { CanAsk ask.ask }
+        requires ready { IsReady self.old.log caller }
+        requires room { IsTrue (has_room self.old.log.history 64) }
+        ensures { CallsStore self.old caller ask result self.new }
+    {
+        self.calls = self.calls.saturating_add(1);
+        match call_store(alloc, &mut self.old_store, &mut self.new_store, &ask) {
+            Ok(reply) => Ok(reply),
+            Err(CallFault::NoMemory) => Err(TurnFault::NoMemory),
+            Err(CallFault::Failed) => {
+                self.log.push(caller, What::Fault);
+                Err(TurnFault::StoreFault)
+            }
+        }
+    }
+
+    /// One turn of a batch call.
     fn batch_turn(&mut self, alloc: Global, caller: u32, call: BatchCall) -> Result<Step, TurnFault>
         ensures { TakesSomeTurn self.old caller (Actor.Client (ClientCall.Batch call)) (said_by result) self.new (left_by result) }
     {
@@ -168,14 +194,38 @@ impl<K: Keeper> Stage<K> {
         let Ok((ask, room)) = prepare(alloc, &mut self.log, caller, &call) else {
             return Err(TurnFault::NoMemory);
         };
-        self.calls = self.calls.saturating_add(1);
-        match call_store(alloc, &mut self.old_store, &mut self.new_store, &ask) {
-            Ok(reply) => answer(alloc, &mut self.log, caller, call, room, reply),
-            Err(CallFault::NoMemory) => Err(TurnFault::NoMemory),
-            Err(CallFault::Failed) => {
-                self.log.push(caller, What::Fault);
-                Err(TurnFault::StoreFault)
-            }
+        let reply = self.ask_store(alloc, caller, ask)?;
+        answer(alloc, &mut self.log, caller, call, room, reply)
+    }
+
+    /// One turn of a query.
+    fn query_turn(&mut self, alloc: Global, caller: u32, call: QueryCall) -> Result<Step, TurnFault>
+        ensures { TakesSomeTurn self.old caller (Actor.Client (ClientCall.Query call)) (said_by result) self.new (left_by result) }
+    {
+        if !self.log.history().room_for(call.need()) {
+            return Err(TurnFault::HistoryFull);
+        }
+        let Ok(ask) = query::prepare(alloc, &mut self.log, caller, &call) else {
+            return Err(TurnFault::NoMemory);
+        };
+        let reply = self.ask_store(alloc, caller, ask)?;
+        query::answer(alloc, &mut self.log, caller, call, reply)
+    }
+
+    /// One turn of a client's call.
+    fn client_turn(
+        &mut self,
+        alloc: Global,
+        caller: u32,
+        call: ClientCall,
+    ) -> Result<Step, TurnFault>
+        requires { CanStep (Actor.Client call) }
+        ensures { TakesSomeTurn self.old caller (Actor.Client call) (said_by result) self.new (left_by result) }
+    {
+        match call {
+            ClientCall::Batch(call) => self.batch_turn(alloc, caller, call),
+            ClientCall::Query(call) => self.query_turn(alloc, caller, call),
+            ClientCall::Ended => unreachable!(),
         }
     }
 
@@ -191,13 +241,9 @@ impl<K: Keeper> Stage<K> {
         ensures { TakesSomeTurn self.old caller actor.old result self.new actor.new }
     {
         let Actor::Client(slot) = actor;
-        match mem::replace(slot, ClientCall::Ended) {
-            ClientCall::Batch(call) => {
-                let (progress, after) = self.batch_turn(alloc, caller, call)?;
-                *slot = after;
-                Ok(progress)
-            }
-            ClientCall::Ended => unreachable!(),
-        }
+        let call = mem::replace(slot, ClientCall::Ended);
+        let (progress, after) = self.client_turn(alloc, caller, call)?;
+        *slot = after;
+        Ok(progress)
     }
 }

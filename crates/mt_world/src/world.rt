@@ -18,6 +18,7 @@ use mt_chain::Keeper;
 use mt_history::History;
 use mt_model::{Entities, NoMemory};
 use mt_open::{OpenedPair, open_stores};
+use mt_query_plan::QueryCall;
 use std::alloc::Global;
 use std::marker::Model;
 use std::snapshot::Snapshot;
@@ -142,6 +143,9 @@ impl<K: Keeper> World<K> {
     {
         match request {
             Request::Batch(batch) => Ok(ClientCall::Batch(BatchCall::new(alloc, batch))),
+            Request::Query { pk, filter } => {
+                Ok(ClientCall::Query(QueryCall::new(pk, filter, false)))
+            }
         }
     }
 
@@ -149,7 +153,7 @@ impl<K: Keeper> World<K> {
     /// ends a client's call. A batch that was written is answered so: all memory is taken before.
     ///
     /// Refused with `HistoryFull` exactly where the history has no room for an entry of the weight of
-    /// the call's batch. The history takes in order what was answered, and that store calls failed.
+    /// the call's batch or query. The history takes in order what was answered, and that store calls failed.
     pub fn turn(
         &mut self,
         alloc: Global,
@@ -164,9 +168,9 @@ impl<K: Keeper> World<K> {
         self.stage.turn(alloc, caller, actor)
     }
 
-    /// Takes turns until the call ends, with no other caller between them. A call at its beginning
+    /// Takes turns until the call ends, with no other caller between them. A batch at its beginning
     /// takes three at most while both stores tell what they hold: one that reads the old store, one that
-    /// reads the new one, where the old one says so, and one that writes.
+    /// reads the new one, where the old one says so, and one that writes. A query takes two at most.
     pub fn finish(
         &mut self,
         alloc: Global,

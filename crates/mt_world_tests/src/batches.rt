@@ -21,16 +21,22 @@ pub enum Do {
     Delete(Cond),
     InsertOrReplace,
     InsertOrMerge,
+
+    /// The row is replaced by the property `Age` alone.
+    SetAge(i32),
 }
 
 /// An operation on the row of that key.
 pub type Sample<'a> = (&'a str, Do);
 
-/// The visible property `B`.
-fn brought(alloc: Global) -> Result<Props, Fail>
+/// A visible property, `B` but for `SetAge`.
+fn brought(alloc: Global, kind: Do) -> Result<Props, Fail>
     ensures { IfOk result (λ ps. list_any (λ p. is_hidden p.name) ps ≡ false) }
 {
-    let props = one(alloc, "B", 1)?;
+    let props = match kind {
+        Do::SetAge(age) => one(alloc, "Age", age)?,
+        _ => one(alloc, "B", 1)?,
+    };
     Ok(props.visible(alloc)?)
 }
 
@@ -45,7 +51,7 @@ fn op_of(alloc: Global, pk: &str, sample: Sample<'_>) -> Result<Op, Fail>
 {
     let (rk, kind) = sample;
     let key = key(alloc, pk, rk)?;
-    let props = brought(alloc)?;
+    let props = brought(alloc, kind)?;
     Ok(match kind {
         Do::Insert => Op::Insert { key, props },
         Do::Replace(cond) => Op::Replace { key, props, cond },
@@ -53,6 +59,11 @@ fn op_of(alloc: Global, pk: &str, sample: Sample<'_>) -> Result<Op, Fail>
         Do::Delete(cond) => Op::Delete { key, cond },
         Do::InsertOrReplace => Op::InsertOrReplace { key, props },
         Do::InsertOrMerge => Op::InsertOrMerge { key, props },
+        Do::SetAge(_) => Op::Replace {
+            key,
+            props,
+            cond: Cond::Any,
+        },
     })
 }
 

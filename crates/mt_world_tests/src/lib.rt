@@ -13,3 +13,7 @@ mod plans;
 mod queries;
 #[cfg(test)]
 mod turns;
+#[cfg(test)]
+mod world_queries;
+#[cfg(test)]
+mod worlds;

@@ -21,7 +21,8 @@ struct Scene<'a> {
     told: &'a str,
 }
 
-fn filter_of(alloc: Global, text: &str) -> Result<Option<Filter>, Fail> {
+/// The filter of a text, or none where it is empty.
+pub fn filter_of(alloc: Global, text: &str) -> Result<Option<Filter>, Fail> {
     if text.is_empty() {
         return Ok(None);
     }

@@ -4,96 +4,13 @@ ghost use Rattle.mt_world.specs.Moves.{CanStep};
 ghost use Rattle.mt_world.specs.Turns.{Knows};
 
 use crate::batches::{Do, Sample, batch, insert_batch};
+use crate::worlds::{answer_text, asked, entry_text, opened, world_of};
 use mt_chain::Cond;
-use mt_history::{History, What};
 use mt_mem::MemKeeper;
-use mt_rules::Batch;
-use mt_test_stores::{FILLING, Past, TURNED, failing_store, rows_text, store_of, tag_text};
-use mt_world::{Actor, Answer, Progress, Request, TurnFault, World};
+use mt_test_stores::{FILLING, Past, TURNED, failing_store, rows_text, store_of};
+use mt_world::{Actor, Progress, Request, World};
 use std::alloc::Global;
 use std::test::Fail;
-
-fn answer_text(alloc: Global, answer: &Answer) -> Result<String, Fail> {
-    match answer {
-        Answer::Written(tags) => tag_text(alloc, tags.as_slice()),
-        Answer::Refused(refusal) => {
-            let (index, cause) = (refusal.index, refusal.cause);
-            Ok(format!(in alloc; "{cause:?} at {index} ")?)
-        }
-    }
-}
-
-fn outcome_text(alloc: Global, outcome: &Result<Answer, TurnFault>) -> Result<String, Fail> {
-    match outcome {
-        Ok(answer) => answer_text(alloc, answer),
-        Err(fault) => {
-            let fault = *fault;
-            Ok(format!(in alloc; "{fault:?} ")?)
-        }
-    }
-}
-
-/// The kind of an entry.
-fn kind(what: &What) -> &'static str {
-    match what {
-        What::Batch { .. } => "batch",
-        What::Refused { .. } => "refused",
-        What::Fault => "fault",
-        _ => "other",
-    }
-}
-
-/// The entries, as kind, caller and number.
-fn entry_text(alloc: Global, history: &History) -> Result<String, Fail> {
-    let mut text = String::new(alloc);
-    for at in 0..history.len() {
-        let Some(entry) = history.get(at) else {
-            return Err(Fail::new("an entry is not kept"));
-        };
-        let kind = kind(&entry.what);
-        let (caller, number) = (entry.caller, entry.number);
-        text.push_str(format!(in alloc; "{kind} {caller}.{number} ")?.as_str())?;
-    }
-    Ok(text)
-}
-
-/// The world of two stores, whose history may have so many entries.
-fn opened(
-    alloc: Global,
-    old: MemKeeper,
-    new: MemKeeper,
-    entries: u64,
-) -> Result<World<MemKeeper>, Fail>
-    requires old { old.store ≡ 0 }
-    requires new { new.store ≡ 1 }
-{
-    let entries = if entries == 1 { 1 } else { 10 };
-    match World::open_world(alloc, old, new, entries) {
-        Ok(world) => Ok(world),
-        Err(_) => Err(Fail::new("two stores were not opened")),
-    }
-}
-
-/// The world of two stores with these pasts.
-fn world_of(alloc: Global, old: &[Past], new: &[Past]) -> Result<World<MemKeeper>, Fail> {
-    let old = store_of(alloc, 0, old)?;
-    let new = store_of(alloc, 1, new)?;
-    opened(alloc, old, new, 10)
-}
-
-/// What a caller's batch is answered, how many store calls were made by then, and how many rows there are.
-fn asked(
-    alloc: Global,
-    world: &mut World<MemKeeper>,
-    caller: u32,
-    batch: Batch,
-) -> Result<String, Fail> {
-    let call = world.call_of(alloc, Request::Batch(batch))?;
-    let outcome = world.finish(alloc, caller, call);
-    let text = outcome_text(alloc, &outcome)?;
-    let (calls, rows) = (world.calls(), world.rows(alloc)?);
-    Ok(format!(in alloc; "{text}calls {calls} rows {rows}; ")?)
-}
 
 /// The callers of three batches in the partition `p`.
 type Script = [(u32, &'static [Sample<'static>]); 3];
@@ -107,7 +24,7 @@ fn run(alloc: Global, failing: u64, entries: u64, script: Script) -> Result<Stri
     let mut text = String::new(alloc);
     for (caller, samples) in script {
         let batch = batch(alloc, "p", samples)?;
-        text.push_str(asked(alloc, &mut world, caller, batch)?.as_str())?;
+        text.push_str(asked(alloc, &mut world, caller, Request::Batch(batch))?.as_str())?;
     }
     text.push_str(entry_text(alloc, world.history())?.as_str())?;
     Ok(text)
@@ -160,7 +77,7 @@ fn writes_many_rows_in_two_store_calls(rt: HostRuntime) -> Result<(), Fail> {
     let alloc = rt.alloc();
     let mut world = world_of(alloc, &[], &[])?;
     let batch = insert_batch(alloc, 100)?;
-    let got = asked(alloc, &mut world, 3, batch)?;
+    let got = asked(alloc, &mut world, 3, Request::Batch(batch))?;
     let mut want = String::new(alloc);
     for n in 2..102 {
         want.push_str(format!(in alloc; "0.{n} ")?.as_str())?;
@@ -188,7 +105,7 @@ fn written(
 ) -> Result<String, Fail> {
     let mut world = world_of(alloc, old, new)?;
     let batch = batch(alloc, pk, &[sample])?;
-    let text = asked(alloc, &mut world, 0, batch)?;
+    let text = asked(alloc, &mut world, 0, Request::Batch(batch))?;
     let held = stores_text(alloc, world, pk)?;
     Ok(format!(in alloc; "{text}{held}")?)
 }
@@ -217,9 +134,9 @@ fn a_deleted_row_is_inserted_again_in_new(rt: HostRuntime) -> Result<(), Fail> {
     let alloc = rt.alloc();
     let mut world = world_of(alloc, &TURNED, &[FILLING])?;
     let delete = batch(alloc, "p", &[("r", Do::Delete(Cond::Any))])?;
-    let gone = asked(alloc, &mut world, 0, delete)?;
+    let gone = asked(alloc, &mut world, 0, Request::Batch(delete))?;
     let insert = batch(alloc, "p", &[("r", Do::Insert)])?;
-    let back = asked(alloc, &mut world, 0, insert)?;
+    let back = asked(alloc, &mut world, 0, Request::Batch(insert))?;
     assert!(rt; gone.as_str() == "0.2 calls 3 rows 0; ", "{gone}");
     assert!(rt; back.as_str() == "1.3 calls 6 rows 1; ", "{back}");
     Ok(())

@@ -1,5 +1,5 @@
 use Rattle.std.proofs.Common.{false, true, ◌≡◌, ◌∷◌, [], Ok, Err, refl, ap}
-use Rattle.mt_world.specs.declared.actor.Answer.TheVariants.{Written, Refused}
+use Rattle.mt_world.specs.declared.actor.Answer.TheVariants.{Written, Refused, Rows}
 use Rattle.mt_world.specs.declared.actor.TurnFault.TheVariants.{StoreFault, HistoryFull, NoMemory}
 use Rattle.mt_front.specs.Items.{applied_entry}
 use Rattle.mt_front.specs.declared.connection.Outcome.TheVariants as outcome
@@ -47,3 +47,9 @@ returns-in-Err-NoMemory g c =
     let k = called 0 c.args.world.now c.call_of.new.self c.finish.new.self c.args.op c.in_ok-batch.batch c.in_ok-call.call (Err NoMemory) c.in_ok-call.ensures.same c.in_ok-call.ensures.call c.in_ok-batch.ensures
     (rw c.in-Err-NoMemory.field-0-is at c.in-Err-NoMemory.ensures) in
     tried_in_vain 0 c.args.world.now c.finish.new.self c.args.op k.marks k.told k.answers (k.still refl)
+
+pub unreachable-requires : goal.unreachable-requires
+unreachable-requires g c =
+    let k = called 0 c.args.world.now c.call_of.new.self c.finish.new.self c.args.op c.in_ok-batch.batch c.in_ok-call.call (Ok (Rows c.in-Ok-Rows.field-0-0)) c.in_ok-call.ensures.same c.in_ok-call.ensures.call c.in_ok-batch.ensures
+    (rw c.in-Ok-Rows.field-0-is at c.in-Ok-Rows.ensures) in
+    (let none : false ≡ true = k.answers.answered in absurd cc)

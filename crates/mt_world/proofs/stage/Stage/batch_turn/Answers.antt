@@ -1,25 +1,26 @@
-use Rattle.std.proofs.Common.{rules, refl, ap, subst, ◌∙◌, Err}
+use Rattle.std.proofs.Common.{ap, ◌∙◌}
+use Rattle.std.proofs.lemmas.Result.{err_from_is_err_and}
 use Rattle.mt_chain.specs.Batch.{batch_weight}
-use Rattle.mt_world.specs.Turns.{CallsOn}
-use Rattle.mt_world.proofs.StageLaws.{has_room_at, was_called, answered_takes, unanswered_takes, failed_takes, starved_takes, full_takes}
+use Rattle.mt_history.specs.Kept.{has_room}
+use Rattle.mt_world.specs.declared.actor.ClientCall.TheVariants as client
+use Rattle.mt_world.specs.declared.actor.Actor.TheVariants.{Client}
+use Rattle.mt_world.specs.Steps.{said_by, left_by}
+use Rattle.mt_world.proofs.StageLaws.{has_room_at, answered_takes, unanswered_takes}
 use Rattle.mt_world.proofs.stage.Stage.batch_turn.Goals as goal
 
-pub returns-in-Ok-call_store : goal.returns-in-Ok-call_store
-returns-in-Ok-call_store g c =
-    rw (← c.self.view_is)
-    (answered_takes _ _ c.args.caller c.args.call c.in-Ok.ask c.in-Ok-call_store.reply c.prepare.new.log c.answer.result
-    (was_called _ _ c.args.call c.in-Ok.ask _ c.prepare.new.log c.batch.ensures.valid
-    (has_room_at _ _ _ _ c.room_for.result c.if-not-room_for.false c.room_for.ensures c.history.ensures (c.weight.ensures ∙ ap batch_weight c.batch.ensures.value))
-    c.prepare.ensures.same c.in-Ok.ensures.asks c.in-Ok-call_store.ensures (search rules) c.saturating_add-self-inside.ensures)
-    c.answer.ensures)
+pub returns-in_err-reply : goal.returns-in_err-reply
+returns-in_err-reply g c =
+    let p = err_from_is_err_and c.from_residual.result c.from_residual.ensures.1 in
+    let room = has_room_at _ _ _ _ c.room_for.result c.if-not-room_for.false c.room_for.ensures c.history.ensures (ap (has_room c.self.inside.log.history) (c.weight.ensures ∙ ap batch_weight c.batch.ensures.value)) in
+    rw (p.1, p.2, ← c.self.view_is)
+    (unanswered_takes _ c.ask_store.new.self c.args.caller (Client (client.Batch c.args.call)) c.in-Ok.ask c.prepare.new.log _
+    (record { fits = c.batch.ensures.valid; room = room; reserves = c.prepare.ensures.same; asks = c.in-Ok.ensures.asks })
+    c.in_err-reply.ensures)
 
-pub returns-in-Err-NoMemory : goal.returns-in-Err-NoMemory
-returns-in-Err-NoMemory g c =
+pub returns : goal.returns
+returns g c =
+    let room = has_room_at _ _ _ _ c.room_for.result c.if-not-room_for.false c.room_for.ensures c.history.ensures (ap (has_room c.self.inside.log.history) (c.weight.ensures ∙ ap batch_weight c.batch.ensures.value)) in
     rw (← c.self.view_is)
-    (unanswered_takes _ _ c.args.caller c.args.call c.in-Ok.ask c.prepare.new.log
-    (was_called _ _ c.args.call c.in-Ok.ask _ c.prepare.new.log c.batch.ensures.valid
-    (has_room_at _ _ _ _ c.room_for.result c.if-not-room_for.false c.room_for.ensures c.history.ensures (c.weight.ensures ∙ ap batch_weight c.batch.ensures.value))
-    c.prepare.ensures.same c.in-Ok.ensures.asks
-    (subst (λ f. CallsOn c.in-Ok.ask.side (g.K.Keeper.state c.self.inside.old_store) (g.K.Keeper.state c.self.inside.new_store) c.in-Ok.ask.ask (Err f) (g.K.Keeper.state c.call_store.new.old_store) (g.K.Keeper.state c.call_store.new.new_store)) c.in-Err-NoMemory.field-0-is c.in-Err-NoMemory.ensures)
-    (search rules) c.saturating_add-self-inside.ensures)
-    refl)
+    (answered_takes _ c.ask_store.new.self _ c.args.caller (Client (client.Batch c.args.call)) (left_by c.answer.result) c.in-Ok.ask c.in_ok-reply.reply c.prepare.new.log c.answer.new.log (said_by c.answer.result)
+    (record { fits = c.batch.ensures.valid; room = room; reserves = c.prepare.ensures.same; asks = c.in-Ok.ensures.asks })
+    c.in_ok-reply.ensures c.self-2.view_is c.answer.ensures)

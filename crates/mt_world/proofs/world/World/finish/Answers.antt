@@ -1,7 +1,7 @@
 use Rattle.std.proofs.Common.{subst, Ok, Err}
 use Rattle.std.proofs.lemmas.Result.{err_from_is_err_and}
 use Rattle.mt_world.specs.Turns.{Turned}
-use Rattle.mt_world.proofs.FinishLaws.{went_more, went_ends, can_go_on, fewer_left}
+use Rattle.mt_world.proofs.FinishLaws.{went_none, went_more, went_ends, can_go_on, fewer_left}
 use Rattle.mt_world.proofs.world.World.finish.Goals as goal
 
 pub returns-in_err-turn : goal.returns-in_err-turn
@@ -26,3 +26,6 @@ pub returns-in-Done : goal.returns-in-Done
 returns-in-Done g c =
     let t = subst (λ x. Turned c.loop-actor.self c.args.caller c.loop-actor.actor (Ok x) c.turn.new.self c.turn.new.actor) c.in-Done.is c.in_ok-turn.ensures.turns in
     went_ends _ _ _ _ _ _ c.turn.new.actor (Ok c.in-Done.answer) t.0 c.loop-actor.invariant.2 t.1
+
+pub loop-actor-init : goal.loop-actor-init
+loop-actor-init g c = (c.requires.ready, c.requires.knows, went_none _ _ _)

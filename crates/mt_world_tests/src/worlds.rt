@@ -1,0 +1,109 @@
+//! Worlds over two stores with a past, and what their calls are answered, as texts.
+ghost use Rattle.std.specs.Prelude.{◌≡◌};
+
+use mt_history::{History, What};
+use mt_mem::MemKeeper;
+use mt_model::Entity;
+use mt_test_stores::{Past, store_of, tag_text};
+use mt_world::{Answer, Request, TurnFault, World};
+use std::alloc::Global;
+use std::test::Fail;
+
+/// The rows of an answer, as row key and tag.
+fn answered_rows(alloc: Global, rows: &[Entity]) -> Result<String, Fail> {
+    let mut text = String::new(alloc);
+    text.push_str("[")?;
+    for row in rows {
+        let rk = row.key.rk.as_str();
+        let (store, n) = (row.tag.store, row.tag.n);
+        text.push_str(format!(in alloc; "{rk} {store}.{n};")?.as_str())?;
+    }
+    text.push_str("] ")?;
+    Ok(text)
+}
+
+pub fn answer_text(alloc: Global, answer: &Answer) -> Result<String, Fail> {
+    match answer {
+        Answer::Written(tags) => tag_text(alloc, tags.as_slice()),
+        Answer::Rows(rows) => answered_rows(alloc, rows.as_slice()),
+        Answer::Refused(refusal) => {
+            let (index, cause) = (refusal.index, refusal.cause);
+            Ok(format!(in alloc; "{cause:?} at {index} ")?)
+        }
+    }
+}
+
+fn outcome_text(alloc: Global, outcome: &Result<Answer, TurnFault>) -> Result<String, Fail> {
+    match outcome {
+        Ok(answer) => answer_text(alloc, answer),
+        Err(fault) => {
+            let fault = *fault;
+            Ok(format!(in alloc; "{fault:?} ")?)
+        }
+    }
+}
+
+/// The kind of an entry.
+fn kind(what: &What) -> &'static str {
+    match what {
+        What::Batch { .. } => "batch",
+        What::Refused { .. } => "refused",
+        What::Query { filter: None, .. } => "query",
+        What::Query { .. } => "filtered",
+        What::Fault => "fault",
+        _ => "other",
+    }
+}
+
+/// The entries, as kind, caller and number.
+pub fn entry_text(alloc: Global, history: &History) -> Result<String, Fail> {
+    let mut text = String::new(alloc);
+    for at in 0..history.len() {
+        let Some(entry) = history.get(at) else {
+            return Err(Fail::new("an entry is not kept"));
+        };
+        let kind = kind(&entry.what);
+        let (caller, number) = (entry.caller, entry.number);
+        text.push_str(format!(in alloc; "{kind} {caller}.{number} ")?.as_str())?;
+    }
+    Ok(text)
+}
+
+/// The world of two stores, whose history may have so many entries.
+pub fn opened(
+    alloc: Global,
+    old: MemKeeper,
+    new: MemKeeper,
+    entries: u64,
+) -> Result<World<MemKeeper>, Fail>
+    requires old { old.store ≡ 0 }
+    requires new { new.store ≡ 1 }
+{
+    let entries = if entries == 1 { 1 } else { 10 };
+    match World::open_world(alloc, old, new, entries) {
+        Ok(world) => Ok(world),
+        Err(_) => Err(Fail::new("two stores were not opened")),
+    }
+}
+
+/// The world of two stores with these pasts.
+pub fn world_of(alloc: Global, old: &[Past], new: &[Past]) -> Result<World<MemKeeper>, Fail> {
+    let old = store_of(alloc, 0, old)?;
+    let new = store_of(alloc, 1, new)?;
+    opened(alloc, old, new, 10)
+}
+
+/// What a caller's call is answered, how many store calls were made by then, and how many rows there are.
+pub fn asked(
+    alloc: Global,
+    world: &mut World<MemKeeper>,
+    caller: u32,
+    request: Request,
+) -> Result<String, Fail> {
+    let call = world.call_of(alloc, request)?;
+    let outcome = world.finish(alloc, caller, call);
+    let text = outcome_text(alloc, &outcome)?;
+    let (calls, rows) = (world.calls(), world.rows(alloc)?);
+    Ok(format!(in alloc; "{text}calls {calls} rows {rows}; ")?)
+}
+
