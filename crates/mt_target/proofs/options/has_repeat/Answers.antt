@@ -1,6 +1,6 @@
-use Rattle.std.proofs.Common.{sym, ◌∙◌, ◌≡◌, true, false, take}
+use Rattle.std.proofs.Common.{sym, ◌∙◌, ◌≡◌, false, take}
 use Rattle.mt_target.specs.Options.{has_option}
-use Rattle.mt_target.proofs.OptionLaws.{seen_step, left_step, left_found, not_true}
+use Rattle.mt_target.proofs.OptionLaws.{seen_step, left_step, not_true}
 use Rattle.mt_target.proofs.options.has_repeat.Goals as goal
 
 pub loop-option-preserved : goal.loop-option-preserved
