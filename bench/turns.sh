@@ -2,8 +2,8 @@
 # Counts the turns a second at a turnstile, for 1, 2 and 4 threads that do nothing else, and prints them beside the
 # kit's Mutex over the same value, taken in the same run: the third number is how many times the mutex's turns they
 # are. The value is a count of 8 bytes, and then one of 64 and of 4,096 bytes, since a turn moves the value twice (a
-# mutex moves nothing: it is measured over 8 bytes and over 4,096). Each number is the best of five runs, which
-# take turns with one another.
+# mutex moves nothing: it is measured over 8 bytes and over 4,096). Each number is the median of nine runs,
+# which take turns with one another: the best would be a run whose threads did not meet.
 # It builds a small program outside the repository; the first build takes some minutes. Other work on the machine
 # shows in every number, and in the ratios less.
 set -eu
@@ -248,9 +248,9 @@ impl<P: Drop> Desk<P> {
 RT
 rt run >"$work/out" 2>"$work/log" || { cat "$work/out"; tail -n 20 "$work/log"; exit 1; }
 python3 - "$work/crates/turns_bench/out/turns_bench" <<'PY'
-import subprocess, sys
+import statistics, subprocess, sys
 
-TURNS = 2_000_000
+TURNS = 8_000_000
 
 KINDS = ("mutex8", "mutex4096", "turnstile8", "turnstile64", "turnstile4096")
 
@@ -262,12 +262,13 @@ def once(kind, threads):
 
 print("threads  bytes  turns a second  mutex's turns  times the mutex's")
 for threads in (1, 2, 4):
-    best = dict.fromkeys(KINDS, 0)
-    for _ in range(5):
+    rates = {kind: [] for kind in KINDS}
+    for _ in range(9):
         for kind in KINDS:
-            best[kind] = max(best[kind], once(kind, threads))
+            rates[kind].append(once(kind, threads))
+    median = {kind: round(statistics.median(found)) for kind, found in rates.items()}
     for size in (8, 64, 4096):
-        turns = best[f"turnstile{size}"]
-        beside = best["mutex4096" if size == 4096 else "mutex8"]
+        turns = median[f"turnstile{size}"]
+        beside = median["mutex4096" if size == 4096 else "mutex8"]
         print(f"{threads:7} {size:6} {turns:15} {beside:14} {turns / beside:18.2f}", flush=True)
 PY
