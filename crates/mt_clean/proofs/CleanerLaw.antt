@@ -230,16 +230,16 @@ old_read_law : (p : Pair) (retired : Bool) (pk : List ℕ) (found : Found) (x : 
 old_read_law p retired pk found None s rise know rows more = stay p retired (at.Rows pk) at.Walk s tt refl
 old_read_law p retired pk found (Some r) s rise know rows more =
     stay p retired (at.Rows pk) (at.Drop pk r.tag (data_rows found.rows) found.more) s (know.0, (know.1.0, (go found.more refl, tt))) refl where
-  go : (b : Bool) → found.more ≡ b → Holds p retired (clean_fact pk (rest_of (data_rows found.rows) b))
-  go true e = know.1.1.0
-  go false e = record {
-    moved = know.1.1.0.moved;
-    tombs = know.1.1.0.tombs;
-    left = λ rk r other is.
-        data_in found.rows rk other
-        ∙ sym (reading_is p.old.rows pk None found rk rise rows more refl (ap (λ (b : Bool). is_upto (read_end found.rows b) rk) e))
-        ∙ ap (option_map (shown rk)) is;
-  }
+      go : (b : Bool) → found.more ≡ b → Holds p retired (clean_fact pk (rest_of (data_rows found.rows) b))
+      go true e = know.1.1.0
+      go false e = record {
+        moved = know.1.1.0.moved;
+        tombs = know.1.1.0.tombs;
+        left = λ rk r other is.
+            data_in found.rows rk other
+            ∙ sym (reading_is p.old.rows pk None found rk rise rows more refl (ap (λ (b : Bool). is_upto (read_end found.rows b) rk) e))
+            ∙ ap (option_map (shown rk)) is;
+      }
 
 read_old_law : (p : Pair) (retired : Bool) (pk : List ℕ) (found : Found) → IsSound p → are_rising p.old.rows ≡ true → AllHold p retired (state_facts (at.Rows pk))
     → IsFound (record { pk = pk; named = marker_key ∷ []; range = Some (next_rows None) }) found p.old

@@ -113,10 +113,10 @@ after_deletes store n (r ∷ rows) rk x =
     after_deletes store n rows rk (cond (bytes_eq r.rk rk) None x)
     ∙ ap (λ b. cond (is_in rk (keys_of rows)) None (cond b None x)) (text_swap r.rk rk)
     ∙ merged (bytes_eq rk r.rk) (is_in rk (keys_of rows)) where
-  merged : (a b : Bool) → cond b None (cond a None x) ≡ cond (a || b) None x
-  merged true true = refl
-  merged true false = refl
-  merged false b = refl
+      merged : (a b : Bool) → cond b None (cond a None x) ≡ cond (a || b) None x
+      merged true true = refl
+      merged true false = refl
+      merged false b = refl
 
 below_apart : (k : List ℕ) (ks : List (List ℕ)) → AllByRecursion (λ y. text_cmp k y ≡ Less) ks → AllByRecursion (λ y. bytes_eq k y ≡ false) ks
 below_apart k [] h = tt

@@ -30,9 +30,7 @@ pub enum CleanProgress {
     NotSealed,
 
     /// New does not use this partition of old's alone. The cleaner is at its beginning.
-    NotMigrated {
-        pk: Text,
-    },
+    NotMigrated { pk: Text },
 }
 
 /// A cleaner: it gives its next store call, and takes the store's reply.

@@ -18,9 +18,7 @@ pub(crate) enum Lead {
     NotSealed,
 
     /// To the beginning, since new does not use the partition alone.
-    NotMigrated {
-        pk: Text,
-    },
+    NotMigrated { pk: Text },
 }
 
 /// Old told its first partition, or that it has none, and whether it is sealed.
@@ -40,7 +38,10 @@ pub(crate) fn purged(pk: Text, upto: Option<Text>) -> State
 {
     match upto {
         None => State::Rows { pk },
-        Some(rk) => State::Tombs { pk, after: Some(rk) },
+        Some(rk) => State::Tombs {
+            pk,
+            after: Some(rk),
+        },
     }
 }
 
@@ -80,12 +81,7 @@ pub(crate) fn read_new(
 }
 
 /// Old was read.
-pub(crate) fn read_old(
-    pk: Text,
-    rows: StoredRows,
-    more: bool,
-    marker: Option<&StoredRow>,
-) -> State
+pub(crate) fn read_old(pk: Text, rows: StoredRows, more: bool, marker: Option<&StoredRow>) -> State
     ensures { result ≡ read_old pk rows more (option_copied marker.entry) }
 {
     match marker {
@@ -103,5 +99,9 @@ pub(crate) fn read_old(
 pub(crate) fn dropped(pk: Text, more: bool) -> State
     ensures { result ≡ dropped pk more }
 {
-    if more { State::Rows { pk } } else { State::Walk }
+    if more {
+        State::Rows { pk }
+    } else {
+        State::Walk
+    }
 }
