@@ -4,6 +4,8 @@
 #[cfg(test)]
 mod batches;
 #[cfg(test)]
+mod cleanings;
+#[cfg(test)]
 mod migrations;
 #[cfg(test)]
 mod openings;

@@ -12,9 +12,9 @@ use std::test::Fail;
 
 /// The two stores of a migration.
 #[derive(Drop)]
-struct Stores {
-    old: MemKeeper,
-    new: MemKeeper,
+pub(crate) struct Stores {
+    pub old: MemKeeper,
+    pub new: MemKeeper,
 }
 
 /// What came of a step.
@@ -27,7 +27,7 @@ struct Outcome {
 }
 
 /// Stores of which old has a partition of so many rows, and its marker first; of 0 rows none.
-fn stores_of(alloc: Global, count: u32) -> Result<Stores, Fail> {
+pub(crate) fn stores_of(alloc: Global, count: u32) -> Result<Stores, Fail> {
     let marker = [Past::Old(Phase::UseOld)];
     let mut old = store_of(alloc, 0, if count > 0 { &marker } else { &[] })?;
     let new = store_of(alloc, 1, &[])?;
@@ -64,7 +64,7 @@ fn step(alloc: Global, migrator: &mut Migrator, stores: &mut Stores) -> Result<O
 }
 
 /// What the steps of a migrator tell until it is done, and how many they are.
-fn run(alloc: Global, stores: &mut Stores) -> Result<(u32, String), Fail> {
+pub(crate) fn run(alloc: Global, stores: &mut Stores) -> Result<(u32, String), Fail> {
     let mut migrator = Migrator::new(alloc);
     let mut text = String::new(alloc);
     for calls in 0..100 {

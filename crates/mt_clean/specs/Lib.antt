@@ -1,0 +1,3 @@
+pub mod Cleanings
+pub mod Known
+pub mod CleanerSteps
