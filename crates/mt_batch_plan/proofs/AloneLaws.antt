@@ -6,11 +6,8 @@ use Rattle.mt_model.specs.declared.tag.Tag.{Tag}
 use Rattle.mt_chain.specs.declared.row.Stored.{Stored}
 use Rattle.mt_chain.specs.declared.row.StoredRow.{StoredRow}
 use Rattle.mt_chain.specs.declared.row.Put.{Put}
-use Rattle.mt_chain.specs.declared.ask.Side.{Side}
-use Rattle.mt_chain.specs.declared.ask.Side.TheVariants.{Old, New}
 use Rattle.mt_chain.specs.declared.op.Op.{Op}
 use Rattle.mt_chain.specs.declared.op.Refusal.{Refusal}
-use Rattle.mt_chain.specs.declared.query.Found.{Found}
 use Rattle.mt_chain.specs.declared.ask.Ask.TheVariants as ask
 use Rattle.mt_chain.specs.declared.ask.StoreAsk.{StoreAsk}
 use Rattle.mt_chain.specs.declared.ask.StoreReply.{StoreReply}
@@ -31,10 +28,10 @@ use Rattle.mt_meta.specs.declared.marker.Phase.TheVariants.{UseOld, PreferOld, P
 use Rattle.mt_meta.specs.declared.marker.NewPhase.{NewPhase}
 use Rattle.mt_meta.specs.declared.marker.NewPhase.TheVariants.{Filling, UseNew}
 use Rattle.mt_meta.specs.Markers.{marker_key, old_phase_of, new_phase_of}
-use Rattle.mt_meta.specs.Logical.{Pair, OldState, NewState, NoOld, AtPreferNew, BadOld, NoNew, AtFilling, BadNew, old_says, new_says, old_state, new_state, old_at, new_at, old_state_at, new_state_at}
+use Rattle.mt_meta.specs.Logical.{Pair, NoOld, BadOld, AtFilling, BadNew, old_says, new_says, old_state, new_state, old_at, new_at, old_state_at, new_state_at}
 use Rattle.mt_meta.specs.Sound.{IsSound}
 use Rattle.mt_meta.specs.Modes.{Mode, Empty, AtOld, Prepared, Copying, Overlaid, Settled, NewOnly, Broken, mode}
-use Rattle.mt_meta.specs.Steps.{contents_of, PairMeans}
+use Rattle.mt_meta.specs.Steps.{PairMeans}
 use Rattle.mt_meta.specs.ReadRows.{kept_in, tag_or}
 use Rattle.mt_meta.proofs.ReadLaws.{read_at, kept_at}
 use Rattle.mt_meta.proofs.ModeLaws.{IsWhole, old_in, new_in, whole, says}
@@ -47,8 +44,8 @@ use Rattle.mt_batch_plan.specs.declared.place.Place.{Place}
 use Rattle.mt_batch_plan.specs.declared.place.Place.TheVariants.{ReadOld, ReadNew, Write}
 use Rattle.mt_batch_plan.specs.declared.call.BatchProgress.{BatchProgress}
 use Rattle.mt_batch_plan.specs.declared.call.BatchProgress.TheVariants.{More}
-use Rattle.mt_batch_plan.specs.Bases.{table_on, side_of, seen_on, stored_in, seen_by, kept_on, put_of, put_by, phase_in, marker_check, marker_birth, marker_birth_new, marker_put, is_write_marker, IsMarked}
-use Rattle.mt_batch_plan.specs.Calls.{writes, AreNames, IsInOrder, Asks, decided, marker_says, saw_old, phase_says, saw_new, Absorbs, PlaceFits, is_write}
+use Rattle.mt_batch_plan.specs.Bases.{table_on, seen_on, stored_in, seen_by, kept_on, put_of, put_by, phase_in, marker_check, marker_birth, marker_birth_new, is_write_marker, IsMarked}
+use Rattle.mt_batch_plan.specs.Calls.{writes, AreNames, IsInOrder, Asks, decided, marker_says, saw_old, phase_says, saw_new, Absorbs, PlaceFits}
 use Rattle.mt_batch_plan.specs.Alone.{AreNamedRows, BasisStands, AfterStands, StandsOn, turns_before}
 use Rattle.mt_batch_plan.proofs.BatchLaw.{stays_same, new_same, saw_is, entries_is}
 use Rattle.mt_batch_plan.proofs.EffectLaws.{put_key}

@@ -1,5 +1,5 @@
 -- What a client's write in the new store does to a sound pair.
-use Rattle.std.proofs.Common.{◌≡◌, ◌≢◌, ◌⊎◌, ℕ, ◌+◌, ◌≤◌, Bool, true, false, List, [], ◌∷◌, Option, Some, None, refl, sym, ap, ◌∙◌, subst, arith, inl, inr, if◌then◌else◌}
+use Rattle.std.proofs.Common.{◌≡◌, ◌≢◌, ◌⊎◌, ℕ, ◌+◌, ◌≤◌, true, List, [], ◌∷◌, Option, Some, None, refl, sym, ap, ◌∙◌, subst, arith, inl, inr, if◌then◌else◌}
 use Rattle.std.specs.Prelude.{is_some}
 use Rattle.mt_model.specs.declared.key.KeyPart.TheVariants.{Partition}
 use Rattle.mt_model.specs.declared.tag.Tag.{Tag}
@@ -20,12 +20,12 @@ use Rattle.mt_meta.specs.declared.marker.NewPhase.TheVariants.{Filling, UseNew}
 use Rattle.mt_meta.specs.declared.mark.Mark.TheVariants.{Live, Copy, Tomb}
 use Rattle.mt_meta.specs.Markers.{marker_key, marker_props, new_kind, new_phase_of}
 use Rattle.mt_meta.specs.Marks.{mark_of, stored}
-use Rattle.mt_meta.specs.Logical.{Pair, NoOld, NoNew, AtFilling, AtUseNew, new_says, old_state, new_state, old_at, new_at, old_state_at, new_state_at, from_new, shown_over, logical}
+use Rattle.mt_meta.specs.Logical.{Pair, NoOld, AtFilling, AtUseNew, new_says, old_state, new_state, old_at, new_at, old_state_at, new_state_at, from_new, shown_over, logical}
 use Rattle.mt_meta.specs.Sound.{IsNewMarker, IsEntry, NoTomb, IsKept, IsSound}
 use Rattle.mt_meta.specs.Modes.{Mode, Empty, AtOld, Prepared, Copying, Overlaid, Settled, NewOnly, Broken, mode_of, mode, rank, FitsMode}
 use Rattle.mt_meta.specs.declared.fact.Keys.{Keys}
 use Rattle.mt_meta.specs.declared.fact.Fact.{Fact}
-use Rattle.mt_meta.specs.Facts.{KnowsRow, KnowsTurned, EntryStays, is_filling, is_use_new, is_prefer_new}
+use Rattle.mt_meta.specs.Facts.{KnowsRow, KnowsTurned, EntryStays, is_filling, is_prefer_new}
 use Rattle.mt_meta.specs.Steps.{with_new, StepIn}
 use Rattle.mt_meta.proofs.MarkLaws.{live_reads}
 use Rattle.mt_meta.proofs.Rules.{new_read, key_cases, to_modes}

@@ -1,5 +1,5 @@
 -- What a client's write in the old store does to a sound pair.
-use Rattle.std.proofs.Common.{◌≡◌, ◌≢◌, ◌⊎◌, ℕ, ◌+◌, ◌≤◌, Bool, true, false, List, [], ◌∷◌, Option, Some, None, refl, sym, ap, ◌∙◌, subst, arith, inl, inr, if◌then◌else◌}
+use Rattle.std.proofs.Common.{◌≡◌, ◌≢◌, ℕ, ◌+◌, ◌≤◌, Bool, true, false, List, [], ◌∷◌, Option, Some, None, refl, sym, ap, ◌∙◌, subst, arith, inl, inr, if◌then◌else◌}
 use Rattle.std.specs.Prelude.{filter}
 use Rattle.mt_model.specs.declared.key.KeyPart.TheVariants.{Partition}
 use Rattle.mt_model.specs.declared.tag.Tag.{Tag}
@@ -14,26 +14,26 @@ use Rattle.mt_chain.specs.Puts.{unmet_from, next_tag}
 use Rattle.mt_chain.specs.StoreCall.{Contents, Done, is_sealed_off, judge}
 use Rattle.mt_chain.proofs.KeyLaws.{text_false}
 use Rattle.mt_chain.proofs.RowLaws.{row_of_partition}
-use Rattle.mt_chain.proofs.PutLaws.{left_by, row_after, all_puts, counter_rises, elsewhere, Each, each_held}
+use Rattle.mt_chain.proofs.PutLaws.{left_by, row_after, all_puts, counter_rises, Each, each_held}
 use Rattle.mt_chain.proofs.JudgeLaws.{contents_after, was_done, allowed_sealed}
 use Rattle.mt_meta.specs.declared.marker.Phase.{Phase}
 use Rattle.mt_meta.specs.declared.marker.Phase.TheVariants.{UseOld, PreferOld, PreferNew}
 use Rattle.mt_meta.specs.declared.mark.Mark.TheVariants.{Copy}
 use Rattle.mt_meta.specs.Markers.{marker_key, marker_props, old_kind, old_phase_of}
 use Rattle.mt_meta.specs.Marks.{mark_of}
-use Rattle.mt_meta.specs.Logical.{Pair, OldState, NoOld, AtUseOld, AtPreferOld, AtPreferNew, BadOld, NoNew, old_says, old_state, old_at, new_at, old_state_at, new_state_at, from_old, logical}
+use Rattle.mt_meta.specs.Logical.{Pair, AtUseOld, NoNew, old_says, old_state, old_at, new_at, old_state_at, new_state_at, from_old, logical}
 use Rattle.mt_meta.specs.Sound.{IsOldMarker, IsOldRow, IsKept, IsSound}
-use Rattle.mt_meta.specs.Modes.{Mode, Empty, AtOld, Prepared, Copying, Overlaid, Settled, NewOnly, Broken, mode_of, mode, rank, FitsMode, shown_in}
+use Rattle.mt_meta.specs.Modes.{Empty, AtOld, mode_of, mode, rank, FitsMode}
 use Rattle.mt_meta.specs.declared.fact.Fact.{Fact}
 use Rattle.mt_meta.specs.Facts.{KnowsRow}
 use Rattle.mt_meta.specs.Steps.{with_old, StepIn}
 use Rattle.mt_meta.proofs.MarkLaws.{client_unmarked}
 use Rattle.mt_meta.proofs.Rules.{old_read, key_cases, to_modes}
 use Rattle.mt_meta.proofs.ByMarkers.{is_write_state, ranks_at, shows_old, shows_none}
-use Rattle.mt_meta.proofs.ModeLaws.{IsWhole, old_in, new_in, whole, says, early_shows, early_fits, unsealed_empty}
+use Rattle.mt_meta.proofs.ModeLaws.{new_in, says, early_fits, unsealed_empty}
 use Rattle.mt_meta.proofs.Growth.{no_rows}
 use Rattle.mt_meta.proofs.StorePuts.{moves_puts, IsSeen, seen, no_row, the_row}
-use Rattle.mt_meta.proofs.Parts.{FormsAt, KeptAt, kept_on, by_part, old_early}
+use Rattle.mt_meta.proofs.Parts.{FormsAt, KeptAt, kept_on, old_early}
 use Rattle.mt_batch_plan.proofs.ClientPuts.{IsPutOf, marker_stays, IsOneOf, one_of}
 use Rattle.mt_batch_plan.specs.Bases.{marker_birth, is_write_phase}
 

@@ -21,7 +21,7 @@ pub or_neither : (a b : Bool) → (a || b) ≡ false → (a ≡ false) × (b ≡
 or_neither true b e = absurd (let x = e in cc)
 or_neither false b e = (refl, e)
 
-pub text_equal : (a b : List ℕ) → text_cmp a b ≡ Equal → a ≡ b
+text_equal : (a b : List ℕ) → text_cmp a b ≡ Equal → a ≡ b
 text_equal a b e = text_true a b (texts_ties a b ∙ ap is_eq e)
 
 -- of two texts that differ the one that is not above the other is below it
@@ -42,7 +42,7 @@ not_le a b h = go (text_cmp a b) refl h where
   go Equal e h = absurd (let x = h in cc)
   go Greater e h = nat_list_cmp_total.antisymm b a ∙ ap ordering_reverse e
 
-pub le_less : (a b c : List ℕ) → is_le (text_cmp a b) ≡ true → text_cmp b c ≡ Less → text_cmp a c ≡ Less
+le_less : (a b c : List ℕ) → is_le (text_cmp a b) ≡ true → text_cmp b c ≡ Less → text_cmp a c ≡ Less
 le_less a b c p q = go (text_cmp a b) refl p where
   go : (o : Ordering) → text_cmp a b ≡ o → is_le o ≡ true → text_cmp a c ≡ Less
   go Less e p = nat_list_cmp_total.trans a b c e q

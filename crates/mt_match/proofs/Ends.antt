@@ -97,11 +97,11 @@ least_in text (next ∷ texts) = go (least_in next texts) (is_le (slice_cmp nat_
   go rest false = Contains-append_right (text ∷ []) (next ∷ texts) (least_of next texts) rest
 
 -- they are the ends
-pub is_low : (texts : List (List ℕ)) → IsLowEnd (greatest texts) texts
+is_low : (texts : List (List ℕ)) → IsLowEnd (greatest texts) texts
 is_low [] = refl
 is_low (text ∷ texts) = (greatest_in text texts, below_greatest (text ∷ texts))
 
-pub is_high : (texts : List (List ℕ)) → IsLeast (least texts) texts
+is_high : (texts : List (List ℕ)) → IsLeast (least texts) texts
 is_high [] = refl
 is_high (text ∷ texts) = (least_in text texts, above_least text texts)
 

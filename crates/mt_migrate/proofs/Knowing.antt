@@ -1,19 +1,19 @@
 -- What a migrator knows: how its facts lie apart, how they last, and what each of its reads tells.
-use Rattle.std.proofs.Common.{◌≡◌, ◌≢◌, ◌⊎◌, ℕ, ◌<◌, Bool, true, false, cond, ◌&&◌, List, [], ◌∷◌, ◌++◌, take, length, nat_lt, Option, Some, None, refl, sym, ap, subst, ◌∙◌, arith, inl, inr, bytes_eq, Less, Equal, Greater, Ordering}
+use Rattle.std.proofs.Common.{◌≡◌, ◌≢◌, ◌⊎◌, ℕ, ◌<◌, Bool, true, false, cond, ◌&&◌, List, [], ◌∷◌, take, length, nat_lt, Option, Some, None, refl, sym, ap, subst, ◌∙◌, arith, inl, inr, bytes_eq, Less, Equal, Greater, Ordering}
 use Rattle.std.specs.Prelude.{option_map, is_some, IfSome}
-use Rattle.std.specs.List.{AllByRecursion, cons_option}
+use Rattle.std.specs.List.{AllByRecursion}
 use Rattle.std.specs.Ordering.{nat_cmp, is_lt, is_le, is_eq}
 use Rattle.std.specs.Cmp.Lexicographic.{slice_cmp, texts_ties}
 use Rattle.mt_model.specs.declared.tag.Tag.{Tag}
 use Rattle.mt_model.specs.declared.value.Prop.{Prop}
 use Rattle.mt_model.specs.Key.{key_fault}
-use Rattle.mt_chain.specs.declared.ask.Side.TheVariants.{Old, New}
+use Rattle.mt_chain.specs.declared.ask.Side.TheVariants.{New}
 use Rattle.mt_chain.specs.declared.query.PkFrom.{PkFrom}
 use Rattle.mt_chain.specs.declared.query.PkFrom.TheVariants as start
 use Rattle.mt_chain.specs.declared.query.Found.{Found}
 use Rattle.mt_chain.specs.declared.row.Stored.{Stored}
 use Rattle.mt_chain.specs.declared.row.StoredRow.{StoredRow}
-use Rattle.mt_chain.specs.Rows.{Rows, row_at, row_in, shown, named_rows, has_partition, are_rising, is_from, is_upto, is_past, rows_within}
+use Rattle.mt_chain.specs.Rows.{Rows, row_at, row_in, shown, has_partition, are_rising, is_from, is_upto, is_past, rows_within}
 use Rattle.mt_chain.specs.StoreCall.{Contents, IsNext}
 use Rattle.mt_chain.proofs.KeyLaws.{text_true}
 use Rattle.mt_chain.proofs.RowLaws.{no_partition}
@@ -26,20 +26,16 @@ use Rattle.mt_meta.specs.declared.marker.NewPhase.TheVariants.{Filling, UseNew}
 use Rattle.mt_meta.specs.declared.mark.Mark.TheVariants.{Copy}
 use Rattle.mt_meta.specs.Markers.{marker_key, marker_props, old_kind, new_kind, old_phase_of, new_phase_of}
 use Rattle.mt_meta.specs.Marks.{mark_of, seen_tag}
-use Rattle.mt_meta.specs.Logical.{Pair, old_at, new_at, old_state_at, new_state_at}
+use Rattle.mt_meta.specs.Logical.{Pair, old_at, new_at, new_state_at}
 use Rattle.mt_meta.specs.Sound.{IsOldMarker, IsKept, AreTags, IsSound}
-use Rattle.mt_meta.specs.Modes.{Mode, Empty, AtOld, Prepared, Copying, Overlaid, Settled, NewOnly, Broken, mode}
 use Rattle.mt_meta.specs.declared.fact.Keys.{Keys}
 use Rattle.mt_meta.specs.declared.fact.Keys.TheVariants as keys
 use Rattle.mt_meta.specs.declared.fact.Fact.{Fact}
 use Rattle.mt_meta.specs.declared.fact.Fact.TheVariants as fact
-use Rattle.mt_meta.specs.Facts.{is_prefer_new, is_marked, is_use_new, KnowsRow, KnowsKept, KnowsTurned, KnowsEpoch, KnowsSwept, Holds, Apart, ApartFrom, IsPlain, AllPlain, Grows}
+use Rattle.mt_meta.specs.Facts.{is_use_new, KnowsRow, KnowsKept, KnowsTurned, KnowsEpoch, KnowsSwept, Holds, Apart, IsPlain, AllPlain}
 use Rattle.mt_meta.specs.Steps.{AllHold, row_facts}
 use Rattle.std.proofs.lemmas.Bool.{lt-ltb}
 use Rattle.mt_meta.proofs.Rules.{old_read, new_read, key_cases}
-use Rattle.mt_meta.proofs.ModeLaws.{IsWhole, old_in, new_in, says, whole}
-use Rattle.mt_meta.proofs.Growth.{fact_kept}
-use Rattle.mt_meta.proofs.Actors.{plain_left}
 use Rattle.mt_meta.proofs.ReadLaws.{row_known}
 use Rattle.mt_migrate.specs.declared.state.Walk.{Walk}
 use Rattle.mt_migrate.specs.declared.state.Walk.TheVariants.{BeforeSeal, AfterSeal}

@@ -11,7 +11,7 @@ use Rattle.mt_open.specs.declared.opening.OpenFault.{OpenFault}
 use Rattle.mt_open.specs.declared.opening.OpenFault.TheVariants as fault
 use Rattle.mt_open.specs.Held.{Held}
 use Rattle.mt_open.specs.Reading.{Passed, AsBefore}
-use Rattle.mt_open.specs.Opening.{Stays, Finds, OpenShows, OpensPair, OpensStores, is_emptied, HoldsStore, fault_of}
+use Rattle.mt_open.specs.Opening.{Stays, Finds, OpenShows, OpensPair, is_emptied, HoldsStore, fault_of}
 use Rattle.mt_open.proofs.ReadingLaws.{onward_start}
 
 -- the pair of two stores that were read

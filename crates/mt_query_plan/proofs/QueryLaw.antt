@@ -22,10 +22,15 @@ use Rattle.mt_meta.specs.declared.marker.NewPhase.{NewPhase}
 use Rattle.mt_meta.specs.declared.marker.NewPhase.TheVariants.{Filling, UseNew}
 use Rattle.mt_meta.specs.declared.fact.Fact.{Fact}
 use Rattle.mt_meta.specs.Markers.{marker_key, old_phase_of, new_phase_of}
-use Rattle.mt_meta.specs.Logical.{Pair, old_says, old_state, new_says, new_state, old_at, new_at, old_state_at, new_state_at, AtFilling, AtUseNew, row_by, logical}
+use Rattle.mt_meta.specs.Logical.{Pair, old_says, old_state, new_says, new_state, old_at, new_at, old_state_at, new_state_at, AtFilling, AtUseNew, shown_over, row_by, logical}
 use Rattle.mt_meta.specs.Sound.{IsSound}
 use Rattle.mt_meta.specs.Facts.{AllPlain, Grows, is_prefer_new, is_filling}
 use Rattle.mt_meta.specs.Steps.{AllHold, as_row, logical_table, with_old, with_new, PairMeans}
+use Rattle.mt_chain.proofs.RangeRows.{in_whole}
+use Rattle.mt_meta.specs.declared.fact.Keys.TheVariants as keys
+use Rattle.mt_meta.specs.ReadRows.{kept_row}
+use Rattle.mt_meta.proofs.ByMarkers.{is_write_state, shows_old, shows_none, shows_fill, shows_new, shows_nothing}
+use Rattle.mt_meta.proofs.ReadLaws.{kept_within, marker_read, turned_known, turned_row, closed_read, closed_none}
 use Rattle.mt_meta.proofs.Growth.{grows_self}
 use Rattle.mt_meta.proofs.Actors.{plain_apart}
 use Rattle.mt_query_plan.specs.declared.place.AfterOld.{AfterOld}
@@ -35,12 +40,10 @@ use Rattle.mt_query_plan.specs.declared.place.Place.TheVariants.{ReadOld, ReadNe
 use Rattle.mt_query_plan.specs.declared.call.QueryProgress.{QueryProgress}
 use Rattle.mt_query_plan.specs.declared.call.QueryProgress.TheVariants as said
 use Rattle.mt_query_plan.specs.Ranges.{range_of, from_low, row_low, row_high}
-use Rattle.mt_query_plan.specs.Answers.{kept_row, shown_over, read_table, IsAnswer}
+use Rattle.mt_query_plan.specs.Answers.{read_table, IsAnswer}
 use Rattle.mt_query_plan.specs.Queries.{Call, Lead, again, on, answered, asks, marker_says, saw_old, phase_says, saw_new, lead_of, Comes, Absorbs, place_facts}
 use Rattle.mt_query_plan.specs.QuerySteps.{Does, QueryStep}
 use Rattle.mt_query_plan.proofs.RangeLaws.{matched_within}
-use Rattle.mt_query_plan.proofs.Showing.{is_write_state, shows_old, shows_none, shows_fill, shows_new, shows_nothing}
-use Rattle.mt_query_plan.proofs.OnReads.{in_whole, kept_shown, kept_within, marker_read, marked_new, closed_read, closed_none}
 
 -- what a step is shown to be, whatever else its actor knows
 record Stepped (pk : List ℕ) (test : Option Filter) (retired : Bool) (p : Pair) (progress : QueryProgress) (q : Pair) (to : Place) : Type 0 where
@@ -128,11 +131,8 @@ module _ (pk : List ℕ) (test : Option Filter) (retired : Bool) (p : Pair) (sou
 
   turned_read : is_prefer_new (old_state_at p pk) ≡ true → AllHold p retired (place_facts pk test (ReadNew (Turned old_rows)))
   turned_read h = (
-    record {
-      marked = marked_new p pk sound h;
-      turned = λ fills. h;
-      rows = λ fills rk other part. sym (in_whole p.old.rows pk (range_of test) rk (ap (λ b. b && is_upto (row_high test) rk) part.0 ∙ part.1));
-    },
+    turned_known p pk (keys.Within (from_low (row_low test)) (row_high test) []) old_rows sound h
+        (λ rk part. sym (in_whole p.old.rows pk (range_of test) rk (ap (λ b. b && is_upto (row_high test) rk) part.0 ∙ part.1))),
     tt,
   )
 
@@ -154,7 +154,7 @@ module _ (pk : List ℕ) (test : Option Filter) (retired : Bool) (p : Pair) (sou
       let parts = and_parts (is_from (from_low (row_low test)) rk) (is_upto (row_high test) rk) within in
       let filling = ap is_filling fills in
       shows_fill p pk rk sound fills (turned.turned filling) other
-      ∙ ap (λ row. shown_over Filling row (new_at p pk rk)) (sym (kept_shown rk (old_at p pk rk)) ∙ ap (option_map kept_row) (turned.rows filling rk other (parts.0, parts.1, refl)))
+      ∙ ap (λ row. shown_over Filling row (new_at p pk rk)) (turned_row p pk rk (keys.Within (from_low (row_low test)) (row_high test) []) rows turned filling other (parts.0, parts.1, refl))
       ∙ ap (shown_over Filling (option_map kept_row (row_in rows rk))) (sym (kept_within p.new.rows pk (range_of test) rk within))
 
   entries_agree : new_state_at p pk ≡ AtUseNew → Agrees UseNew [] new_rows

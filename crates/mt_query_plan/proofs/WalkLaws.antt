@@ -18,12 +18,14 @@ use Rattle.mt_chain.specs.Rows.{RisingRows, row_in, key_at, are_rising}
 use Rattle.mt_chain.specs.Table.{Table, table_of, rows_of}
 use Rattle.mt_chain.proofs.KeyLaws.{text_true, text_same, is_tied, key_ties}
 use Rattle.mt_chain.proofs.OrderLaws.{eq_equal}
+use Rattle.mt_chain.specs.TwoLists.{first_key, first_row, rows_past}
+use Rattle.mt_chain.proofs.TextOrder.{text_cmp, or_left, or_right, or_neither}
+use Rattle.mt_chain.proofs.TwoLists.{has, left, not_there, IsFirst, is_first, Past, past_rows, at_first, past_in, none_left}
 use Rattle.mt_history.specs.Replies.{in_partition, is_matched, kept_if, selected}
 use Rattle.mt_meta.specs.declared.marker.NewPhase.{NewPhase}
 use Rattle.mt_meta.specs.declared.marker.NewPhase.TheVariants.{Filling, UseNew}
 use Rattle.mt_meta.specs.Markers.{marker_key}
-use Rattle.mt_query_plan.specs.Answers.{seen_over, read_table, wanted_over, with_key, first_key, first_row, rows_past, with_one, IsAnswer}
-use Rattle.mt_query_plan.proofs.FirstKeys.{text_cmp, has, left, or_left, or_right, or_neither, not_there, IsFirst, is_first, Past, past_rows, at_first, past_in, none_left}
+use Rattle.mt_query_plan.specs.Answers.{seen_over, read_table, wanted_over, with_key, with_one, IsAnswer}
 
 -- ---- one entity more
 

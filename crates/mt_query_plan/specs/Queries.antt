@@ -1,13 +1,11 @@
 -- The query of one partition: where it is, what it asks there, and how it moves with each reply.
-use Rattle.std.specs.Prelude.{◌≡◌, ℕ, Bool, true, false, List, [], ◌∷◌, ◌++◌, Option, Some, None, Result, Ok, Err}
+use Rattle.std.specs.Prelude.{◌≡◌, ℕ, Bool, true, false, List, [], ◌∷◌, Option, Some, None, Result, Ok, Err}
 use Rattle.mt_model.specs.declared.text.NoMemory.{NoMemory}
 use Rattle.mt_filter.specs.declared.filter.Filter.{Filter}
 use Rattle.mt_chain.specs.declared.row.StoredRow.{StoredRow}
 use Rattle.mt_chain.specs.declared.query.Found.{Found}
-use Rattle.mt_chain.specs.declared.query.PkFrom.TheVariants as start
 use Rattle.mt_chain.specs.declared.ask.Side.{Side}
 use Rattle.mt_chain.specs.declared.ask.Side.TheVariants.{Old, New}
-use Rattle.mt_chain.specs.declared.ask.Ask.TheVariants as ask
 use Rattle.mt_chain.specs.declared.ask.StoreAsk.{StoreAsk}
 use Rattle.mt_chain.specs.declared.ask.StoreReply.{StoreReply}
 use Rattle.mt_chain.specs.declared.ask.StoreReply.TheVariants as reply
@@ -20,6 +18,7 @@ use Rattle.mt_meta.specs.declared.fact.Keys.TheVariants as keys
 use Rattle.mt_meta.specs.declared.fact.Fact.{Fact}
 use Rattle.mt_meta.specs.declared.fact.Fact.TheVariants as fact
 use Rattle.mt_meta.specs.Markers.{marker_key, old_phase_of, new_phase_of}
+use Rattle.mt_meta.specs.ReadRows.{reads_marked, closed_fact}
 use Rattle.mt_query_plan.specs.declared.place.AfterOld.{AfterOld}
 use Rattle.mt_query_plan.specs.declared.place.AfterOld.TheVariants.{Turned, Closed, Moved}
 use Rattle.mt_query_plan.specs.declared.place.Place.{Place}
@@ -44,16 +43,13 @@ first_place true = ReadNew Moved
 
 -- ---- what is asked
 
--- a read of the marker, and of the range that the filter leaves
-abbrev pub reads : Side → List ℕ → Option Filter → StoreAsk
-reads side pk filter = record { side = side; ask = ask.Query (record { pk = pk; named = marker_key ∷ []; range = Some (range_of filter) }) }
-
 abbrev pub side_of : Place → Side
 side_of ReadOld = Old
 side_of (ReadNew after) = New
 
+-- a read of the marker, and of the range that the filter leaves
 abbrev pub asks : Call → StoreAsk
-asks call = reads (side_of call.place) call.pk call.filter
+asks call = reads_marked (side_of call.place) call.pk (Some (range_of call.filter))
 
 -- ---- where a read leads
 
@@ -129,10 +125,6 @@ Absorbs call answer r to = ⊥
 -- once old was turned: while new fills, old's rows in the range stay those that were read
 abbrev pub turned_fact : List ℕ → Option Filter → List StoredRow → Fact
 turned_fact pk filter rows = fact.Turned pk (keys.Within (from_low (row_low filter)) (row_high filter) []) rows
-
--- once old was sealed: it has nothing of this partition, which ends before its key with a zero byte behind it
-abbrev pub closed_fact : List ℕ → Fact
-closed_fact pk = fact.Closed (start.From pk) (Some (pk ++ (0 ∷ [])))
 
 abbrev pub place_facts : List ℕ → Option Filter → Place → List Fact
 place_facts pk filter ReadOld = []

@@ -1,29 +1,12 @@
 -- The range of row keys that a filter leaves.
-use Rattle.std.specs.Prelude.{ℕ, List, [], ◌∷◌, Option, Some, None, if◌then◌else◌}
-use Rattle.std.specs.Ordering.{nat_cmp, is_le}
-use Rattle.std.specs.Cmp.Lexicographic.{slice_cmp}
+use Rattle.std.specs.Prelude.{ℕ, List, [], ◌∷◌, Option, Some, None}
 use Rattle.mt_model.specs.declared.key.KeyPart.TheVariants.{Row}
 use Rattle.mt_filter.specs.declared.filter.Filter.{Filter}
 use Rattle.mt_filter.specs.Tree.{tree_of}
-use Rattle.mt_match.specs.Bounds.{low_texts, high_texts}
+use Rattle.mt_match.specs.Bounds.{low_texts, high_texts, greatest, least}
 use Rattle.mt_chain.specs.declared.query.RkFrom.{RkFrom}
 use Rattle.mt_chain.specs.declared.query.RkFrom.TheVariants.{Start, From}
 use Rattle.mt_chain.specs.declared.query.Range.{Range}
-
--- the greatest of the texts, or the empty text where there is none
-abbrev pub greatest : List (List ℕ) → List ℕ
-greatest [] = []
-greatest (text ∷ texts) = if is_le (slice_cmp nat_cmp text (greatest texts)) then greatest texts else text
-
--- the least of a text and others
-abbrev pub least_of : List ℕ → List (List ℕ) → List ℕ
-least_of text [] = text
-least_of text (other ∷ texts) = if is_le (slice_cmp nat_cmp text (least_of other texts)) then text else least_of other texts
-
--- the least of the texts, or none where there is none
-abbrev pub least : List (List ℕ) → Option (List ℕ)
-least [] = None
-least (text ∷ texts) = Some (least_of text texts)
 
 -- the row keys below and above which a filter matches nothing
 abbrev pub row_low : Option Filter → List ℕ

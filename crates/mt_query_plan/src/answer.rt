@@ -1,72 +1,74 @@
 //! The rows that a query is answered.
-ghost use Rattle.std.specs.Prelude.{◌≡◌, [], IfOk, Some, None, option_copied, option_map, filter as keep, if◌then◌else◌};
-ghost use Rattle.std.specs.Ordering.{nat_cmp, is_le};
-ghost use Rattle.std.specs.Cmp.Lexicographic.{slice_cmp};
+ghost use Rattle.std.specs.Prelude.{◌≡◌, IfOk, option_copied, option_map, filter as keep};
+ghost use Rattle.mt_model.specs.Props.{is_visible};
 ghost use Rattle.mt_chain.specs.Rows.{key_at};
 ghost use Rattle.mt_history.specs.Replies as says;
-ghost use Rattle.mt_meta.specs.Logical.{shown_as};
-ghost use Rattle.mt_meta.specs.Steps.{as_row};
-ghost use Rattle.mt_query_plan.specs.Answers.{kept_row, shown_over, wanted_over, with_key, first_key, first_row, rows_past, with_one, IsAnswer};
+ghost use Rattle.mt_meta.specs.ReadRows.{sight_row};
+ghost use Rattle.mt_query_plan.specs.Answers.{seen_over, wanted_over, with_key, with_one, IsAnswer};
 
-use mt_chain::{StoredRow, StoredRows};
+use mt_chain::{StoredRow, StoredRows, first_key, first_row, rows_past};
 use mt_filter::Filter;
-use mt_match::matches;
-use mt_meta::{Choice, MARKER_KEY, NewPhase, overlay};
-use mt_model::{Entities, Entity, Key, NoMemory, Tag, Text};
+use mt_match::matches_row;
+use mt_meta::{MARKER_KEY, NewPhase, Sight, sight_over};
+use mt_model::{Entities, Entity, Key, NoMemory, Props, Text};
 use std::alloc::Global;
 
-/// Whether the filter matches the row, or there is none.
-fn is_matched(filter: &Option<Filter>, entity: &Entity) -> bool
-    ensures { result ≡ says.is_matched filter.now entity.now.key entity.now.props }
+/// Whether the filter matches what clients see of a row's properties, or there is no filter.
+fn is_matched(filter: &Option<Filter>, pk: &Text, rk: &Text, props: &Props) -> bool
+    ensures { result ≡ says.is_matched filter.now (key_at pk.now rk.now) (keep is_visible props.now) }
 {
     match filter {
         None => true,
-        Some(filter) => matches(filter, entity),
+        Some(filter) => matches_row(filter, pk, rk, props),
     }
 }
 
-/// The visible properties of a row, with its key and the tag that clients see.
-fn shown_with(
-    alloc: Global,
-    pk: &Text,
-    rk: &Text,
-    row: Option<&StoredRow>,
-    tag: Tag,
-) -> Result<Option<Entity>, NoMemory>
-    ensures { IfOk result (λ e. e ≡ option_map (λ r. with_key pk.now rk.now (as_row (shown_as r.props tag))) (option_copied row.entry)) }
-{
-    let Some(row) = row else {
-        return Ok(None);
-    };
-    let pk = pk.copy(alloc)?;
-    let rk = rk.copy(alloc)?;
-    let props = row.props.visible(alloc)?;
-    Ok(Some(Entity {
-        key: Key { pk, rk },
-        props,
-        tag,
-    }))
-}
-
-/// What clients see by a row of old and an entry of new.
-fn shown(
-    alloc: Global,
-    pk: &Text,
+/// What clients see at a row key by a row of old and an entry of new. The marker is no row.
+fn seen_at<'a>(
     phase: NewPhase,
     rk: &Text,
-    row: Option<&StoredRow>,
-    entry: Option<&StoredRow>,
-) -> Result<Option<Entity>, NoMemory>
-    ensures { IfOk result (λ e. e ≡ option_map (λ s. with_key pk.now rk.now (as_row s)) (shown_over phase (option_map kept_row (option_copied row.entry)) (option_map kept_row (option_copied entry.entry)))) }
+    row: Option<&'a StoredRow>,
+    entry: Option<&'a StoredRow>,
+) -> Option<Sight<'a>>
+    ensures { option_map sight_row result ≡ seen_over phase rk.now (option_copied row.entry) (option_copied entry.entry) }
 {
-    match overlay(phase, row, entry) {
-        Choice::Nothing => Ok(None),
-        Choice::OldRow(tag) => shown_with(alloc, pk, rk, row, tag),
-        Choice::NewRow(tag) => shown_with(alloc, pk, rk, entry, tag),
+    if rk.as_str() == MARKER_KEY {
+        None
+    } else {
+        sight_over(phase, row, entry)
     }
 }
 
-/// The row that a client is answered at a key.
+/// What clients see, if the filter matches it.
+fn kept<'a>(
+    filter: &Option<Filter>,
+    pk: &Text,
+    rk: &Text,
+    seen: Option<Sight<'a>>,
+) -> Option<Sight<'a>>
+    ensures { option_map sight_row result ≡ says.kept_if (λ s. says.is_matched filter.now (key_at pk.now rk.now) s.props) (option_map sight_row seen.entry) }
+{
+    match seen {
+        Some(sight) if is_matched(filter, pk, rk, sight.props) => Some(sight),
+        _ => None,
+    }
+}
+
+/// A copy of what clients see, with its key.
+fn copy_of(alloc: Global, pk: &Text, rk: &Text, sight: Sight<'_>) -> Result<Entity, NoMemory>
+    ensures { IfOk result (λ e. e ≡ with_key pk.now rk.now (sight_row sight.entry)) }
+{
+    let pk = pk.copy(alloc)?;
+    let rk = rk.copy(alloc)?;
+    let props = sight.props.visible(alloc)?;
+    Ok(Entity {
+        key: Key { pk, rk },
+        props,
+        tag: sight.tag,
+    })
+}
+
+/// The row that a client is answered at a key, which alone is copied.
 fn wanted(
     alloc: Global,
     pk: &Text,
@@ -78,55 +80,10 @@ fn wanted(
 ) -> Result<Option<Entity>, NoMemory>
     ensures { IfOk result (λ e. e ≡ option_map (with_key pk.now rk.now) (wanted_over pk.now filter.now phase rk.now (option_copied row.entry) (option_copied entry.entry))) }
 {
-    if rk.as_str() == MARKER_KEY {
-        return Ok(None);
-    }
-    match shown(alloc, pk, phase, rk, row, entry)? {
-        Some(entity) => if is_matched(filter, &entity) {
-            Ok(Some(entity))
-        } else {
-            Ok(None)
-        },
+    let seen = seen_at(phase, rk, row, entry);
+    match kept(filter, pk, rk, seen) {
         None => Ok(None),
-    }
-}
-
-/// The lesser of two row keys.
-fn lesser<'a>(a: &'a Text, b: &'a Text) -> &'a Text
-    ensures { result.now ≡ (if is_le (slice_cmp nat_cmp a.now b.now) then a.now else b.now) }
-{
-    if a <= b { a } else { b }
-}
-
-/// The least key of rows of both stores.
-fn first_key<'a>(rows: &'a [StoredRow], entries: &'a [StoredRow]) -> Option<&'a Text>
-    ensures { option_copied result ≡ first_key rows.now entries.now }
-{
-    match (rows.first(), entries.first()) {
-        (None, None) => None,
-        (Some(row), None) => Some(&row.rk),
-        (None, Some(entry)) => Some(&entry.rk),
-        (Some(row), Some(entry)) => Some(lesser(&row.rk, &entry.rk)),
-    }
-}
-
-/// The first row, where it has that key.
-fn first_row<'a>(rows: &'a [StoredRow], rk: &Text) -> Option<&'a StoredRow>
-    ensures { option_copied result ≡ first_row rk.now rows.now }
-{
-    match rows.first() {
-        Some(row) if row.rk == *rk => Some(row),
-        _ => None,
-    }
-}
-
-/// The rows behind a key, where it is that of the first.
-fn rows_past<'a>(rows: &'a [StoredRow], rk: &Text) -> &'a [StoredRow]
-    ensures { result.now ≡ rows_past rk.now rows.now }
-{
-    match rows.split_first() {
-        Some((row, rest)) if row.rk == *rk => rest,
-        _ => rows,
+        Some(sight) => Ok(Some(copy_of(alloc, pk, rk, sight)?)),
     }
 }
 

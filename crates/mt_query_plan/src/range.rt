@@ -1,24 +1,15 @@
 //! What a query reads of a store.
-ghost use Rattle.std.specs.Prelude.{◌≡◌, ◌∷◌, [], IfOk};
+ghost use Rattle.std.specs.Prelude.{◌≡◌, Some, IfOk};
 ghost use Rattle.mt_chain.specs.Asks.{CanAsk};
-ghost use Rattle.mt_meta.specs.Markers.{marker_key};
+ghost use Rattle.mt_meta.specs.ReadRows.{reads_marked};
 ghost use Rattle.mt_query_plan.specs.Ranges.{from_low, range_of};
-ghost use Rattle.mt_query_plan.specs.Queries.{reads};
 
-use mt_chain::{Ask, Range, RangeQuery, RkFrom, Side, StoreAsk};
+use mt_chain::{Range, RkFrom, Side, StoreAsk};
 use mt_filter::Filter;
 use mt_match::key_bounds;
-use mt_meta::MARKER_KEY;
-use mt_model::{NoMemory, Text, Texts};
+use mt_meta::read_marked;
+use mt_model::{NoMemory, Text};
 use std::alloc::Global;
-
-fn marker_name(alloc: Global) -> Result<Texts, NoMemory>
-    ensures { IfOk result (λ names. names ≡ marker_key ∷ []) }
-{
-    let mut names = Vec::new(alloc);
-    names.push(Text::of(alloc, MARKER_KEY)?)?;
-    Ok(Texts::of(names))
-}
 
 /// From a row key on, or from the start where it is empty.
 fn from_low(low: Text) -> RkFrom
@@ -59,16 +50,9 @@ pub(crate) fn read(
     pk: &Text,
     filter: &Option<Filter>,
 ) -> Result<StoreAsk, NoMemory>
-    ensures asks { IfOk result (λ a. a ≡ reads side pk.now filter.now) }
+    ensures asks { IfOk result (λ a. a ≡ reads_marked side pk.now (Some (range_of filter.now))) }
     ensures can { IfOk result (λ a. CanAsk a.ask) }
 {
-    let query = RangeQuery {
-        pk: pk.copy(alloc)?,
-        named: marker_name(alloc)?,
-        range: Some(range_of(alloc, filter)?),
-    };
-    Ok(StoreAsk {
-        side,
-        ask: Ask::Query(query),
-    })
+    let range = range_of(alloc, filter)?;
+    read_marked(alloc, side, pk, Some(range))
 }

@@ -1,5 +1,5 @@
 use Rattle.std.proofs.Common.{Ok, Err, sym, subst}
-use Rattle.mt_open.specs.Opening.{HoldsStore, OpensStores}
+use Rattle.mt_open.specs.Opening.{OpensStores}
 use Rattle.mt_open.proofs.OpeningLaws.{old_not_read, new_not_read, both_read, told_emptied}
 use Rattle.mt_open.proofs.opening.open_stores.Goals as goal
 

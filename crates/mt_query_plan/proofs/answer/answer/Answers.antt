@@ -2,7 +2,8 @@ use Rattle.std.proofs.Common.{List, [], Option, option_map, option_copied, ap, s
 use Rattle.mt_model.specs.declared.entity.Entity.{Entity}
 use Rattle.mt_chain.specs.declared.row.StoredRow.{StoredRow}
 use Rattle.mt_history.proofs.ListingLaws.{keys_rise}
-use Rattle.mt_query_plan.specs.Answers.{wanted_over, with_key, first_row, rows_past, with_one}
+use Rattle.mt_chain.specs.TwoLists.{first_row, rows_past}
+use Rattle.mt_query_plan.specs.Answers.{wanted_over, with_key, with_one}
 use Rattle.mt_query_plan.proofs.WalkLaws.{Walked, walk_start, walk_more}
 use Rattle.mt_query_plan.proofs.answer.answer.Goals as goal
 

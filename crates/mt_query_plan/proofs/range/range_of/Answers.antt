@@ -2,7 +2,7 @@ use Rattle.std.proofs.Common.{ℕ, List, Option, None, ap, sym, ◌∙◌}
 use Rattle.mt_chain.specs.declared.query.RkFrom.{RkFrom}
 use Rattle.mt_chain.specs.declared.query.Range.{Range}
 use Rattle.mt_query_plan.specs.Ranges.{from_low, range_of}
-use Rattle.mt_query_plan.proofs.RangeLaws.{low_is, high_is}
+use Rattle.mt_match.proofs.Ends.{low_is, high_is}
 use Rattle.mt_query_plan.proofs.range.range_of.Goals as goal
 
 abbrev unlimited : RkFrom → Option (List ℕ) → Range
