@@ -9,5 +9,6 @@ mod saw;
 #[cfg(test)]
 mod tests;
 
+pub use answer::{push_one, wanted};
 pub use call::{QueryCall, QueryProgress};
 pub use place::{AfterOld, Place};

@@ -1,11 +1,11 @@
 -- The rows that the walk finds are the first that clients see, up to where the chunk ends.
-use Rattle.std.proofs.Common.{◌≡◌, ℕ, zero, suc, ◌+◌, ◌-◌, ◌≤◌, ◌<◌, Bool, true, false, cond, ◌&&◌, nat_lt, List, [], ◌∷◌, ◌++◌, length, Option, Some, None, refl, sym, ap, subst, ◌∙◌, arith, inl, inr, bytes_eq, Less, Equal, length-append}
+use Rattle.std.proofs.Common.{◌≡◌, ℕ, ◌-◌, ◌≤◌, ◌<◌, Bool, true, false, cond, ◌&&◌, nat_lt, List, [], ◌∷◌, ◌++◌, length, Option, Some, None, refl, sym, ap, subst, ◌∙◌, arith, inl, inr, bytes_eq, Less, Equal, length-append}
 use Rattle.std.specs.Prelude.{option_map}
 use Rattle.std.proofs.lemmas.Bool.{and_parts, or_cases}
 use Rattle.std.proofs.lemmas.Bool.Decides.{nat_tests}
 use Rattle.std.specs.List.{AllByRecursion, slice_get}
 use Rattle.std.specs.List.Sorted.{IsStrictlySortedBy}
-use Rattle.std.specs.Ordering.{is_le, is_eq, is_lt, eq_by_cmp, ordering_reverse}
+use Rattle.std.specs.Ordering.{is_le, is_lt, eq_by_cmp, ordering_reverse}
 use Rattle.std.specs.Cmp.{tied_itself}
 use Rattle.std.specs.Cmp.Lexicographic.{nat_list_cmp_total}
 use Rattle.std.specs.FinMap.Entries.{find, below_all}
@@ -23,7 +23,7 @@ use Rattle.mt_chain.proofs.KeyLaws.{key_ties}
 use Rattle.mt_chain.proofs.OrderLaws.{key_less, eq_equal, lt_less}
 use Rattle.mt_chain.proofs.TextOrder.{text_cmp, le_itself, le_trans}
 use Rattle.mt_chain.proofs.TwoLists.{has, left, none_left, IsFirst, is_first}
-use Rattle.mt_history.specs.Replies.{in_partition, in_range, is_matched, kept_if, selected}
+use Rattle.mt_history.specs.Replies.{in_range, is_matched, kept_if, selected}
 use Rattle.mt_meta.specs.declared.marker.NewPhase.{NewPhase}
 use Rattle.mt_query_plan.specs.Answers.{read_table, wanted_over, with_key, with_one}
 use Rattle.mt_query_plan.proofs.WalkLaws.{Walked, walk_start, walk_more}

@@ -1,5 +1,5 @@
 -- What a store of a sound pair answers has keys that meet the rules.
-use Rattle.std.proofs.Common.{◌≡◌, ◌≢◌, ◌⊎◌, ℕ, zero, suc, ◌≤◌, ◌<◌, Bool, true, false, cond, not, ◌&&◌, ◌||◌, ◌==◌, nat_lt, List, [], ◌∷◌, length, map, take, Option, Some, None, refl, sym, ap, subst, ◌∙◌, arith, inl, inr, bytes_eq, Less, Equal, Greater, Ordering}
+use Rattle.std.proofs.Common.{◌≡◌, ◌≢◌, ◌⊎◌, ℕ, zero, suc, ◌≤◌, Bool, true, false, cond, not, ◌&&◌, ◌||◌, ◌==◌, nat_lt, List, [], ◌∷◌, length, map, take, Option, Some, None, refl, sym, ap, subst, ◌∙◌, arith, inl, inr, bytes_eq, Less, Equal, Greater}
 use Rattle.std.specs.Prelude.{is_some, option_map}
 use Rattle.std.specs.Option.{option_or}
 use Rattle.std.proofs.lemmas.Bool.{and_parts}
@@ -7,21 +7,20 @@ use Rattle.std.proofs.lemmas.Bool.Decides.{nat_tests}
 use Rattle.std.specs.List.{AllByRecursion, list_all}
 use Rattle.std.specs.List.Sorted.{IsStrictlySortedBy}
 use Rattle.std.specs.Ordering.{nat_cmp, ordering_then}
-use Rattle.std.specs.Cmp.{tied_itself}
-use Rattle.std.specs.Cmp.Lexicographic.{slice_cmp, nat_list_cmp_total}
+use Rattle.std.specs.Cmp.Lexicographic.{slice_cmp}
 use Rattle.std.specs.Str.{chars}
 use Rattle.mt_model.specs.declared.key.KeyFault.{KeyFault}
 use Rattle.mt_model.specs.declared.key.KeyFault.TheVariants.{KeyTooLong, KeyChar}
 use Rattle.mt_model.specs.Char.{is_forbidden, first_passing}
 use Rattle.mt_model.specs.declared.key.KeyPart.TheVariants.{Partition, Row}
-use Rattle.mt_model.specs.Key.{key_fault, part_fault}
+use Rattle.mt_model.specs.Key.{part_fault}
 use Rattle.mt_chain.specs.declared.row.Stored.{Stored}
 use Rattle.mt_chain.specs.declared.row.StoredRow.{StoredRow}
 use Rattle.mt_chain.specs.declared.query.Found.{Found}
 use Rattle.mt_chain.specs.declared.query.PkFrom.{PkFrom}
 use Rattle.mt_chain.specs.declared.query.Range.{Range}
-use Rattle.mt_chain.specs.Rows.{Rows, RisingRows, row_at, last_key, read_end, has_partition, is_past, rows_within}
-use Rattle.mt_chain.specs.StoreCall.{Contents, IsContents, IsFound, IsNext}
+use Rattle.mt_chain.specs.Rows.{RisingRows, row_at, last_key, read_end, rows_within}
+use Rattle.mt_chain.specs.StoreCall.{Contents, IsContents, IsNext}
 use Rattle.mt_chain.proofs.KeyLaws.{text_differs, text_true}
 use Rattle.mt_chain.proofs.RangeRows.{IsRowOf, members, all_taken, rising_within}
 use Rattle.mt_chain.proofs.RowLaws.{row_of_partition}

@@ -1,14 +1,14 @@
 -- What a page keeps whatever the stores reply.
-use Rattle.std.proofs.Common.{◌≡◌, ◌⊎◌, ℕ, ◌+◌, ◌-◌, ◌≤◌, ◌<◌, Bool, true, false, cond, not, ◌&&◌, ◌||◌, ◌==◌, nat_le, List, [], ◌∷◌, ◌++◌, length, map, Option, Some, None, refl, sym, ap, subst, ◌∙◌, arith, inl, inr, Less, Equal, Greater, Ordering, append-nil}
+use Rattle.std.proofs.Common.{◌≡◌, ℕ, ◌≤◌, Bool, true, false, cond, not, ◌||◌, ◌==◌, nat_le, List, [], ◌∷◌, ◌++◌, length, map, Option, Some, None, refl, sym, ap, subst, ◌∙◌, arith, inl, inr, Less, Equal, Greater, Ordering, append-nil}
 use Rattle.std.specs.Prelude.{IfSome, IsTrue}
 use Rattle.std.proofs.lemmas.Bool.{and_parts}
 use Rattle.std.proofs.lemmas.Bool.Decides.{nat_tests}
 use Rattle.std.specs.List.{All, AllByRecursion}
 use Rattle.std.proofs.lemmas.List.Elements.{All-head, All-tail}
 use Rattle.std.specs.List.Sorted.{IsStrictlySortedBy}
-use Rattle.std.specs.Ordering.{nat_cmp, is_lt, is_le, ordering_then, ordering_reverse}
+use Rattle.std.specs.Ordering.{nat_cmp, is_eq, is_lt, is_le, ordering_then, ordering_reverse}
 use Rattle.std.specs.Cmp.{tied_itself}
-use Rattle.std.specs.Cmp.Lexicographic.{slice_cmp, nat_list_cmp_total}
+use Rattle.std.specs.Cmp.Lexicographic.{slice_cmp, nat_list_cmp_total, texts_ties}
 use Rattle.mt_model.specs.declared.key.Key.{Key}
 use Rattle.mt_model.specs.declared.entity.Entity.{Entity}
 use Rattle.mt_model.specs.Key.{key_cmp}
@@ -21,24 +21,21 @@ use Rattle.mt_chain.specs.declared.query.Next.{Next}
 use Rattle.mt_chain.specs.declared.query.Range.{Range}
 use Rattle.mt_chain.specs.declared.query.PkFrom.{PkFrom}
 use Rattle.mt_chain.specs.declared.query.PkFrom.TheVariants as part
-use Rattle.mt_chain.specs.declared.query.RkFrom.{RkFrom}
 use Rattle.mt_chain.specs.declared.query.RkFrom.TheVariants as start
-use Rattle.mt_chain.specs.declared.ask.Side.{Side}
 use Rattle.mt_chain.specs.declared.ask.StoreReply.{StoreReply}
 use Rattle.mt_chain.specs.declared.ask.StoreReply.TheVariants as reply
 use Rattle.mt_chain.specs.Rows.{key_at, is_from, is_upto, is_within, is_past}
 use Rattle.mt_chain.specs.Asks.{FitsAsk}
-use Rattle.mt_chain.specs.StoreCall.{FitsQuery}
 use Rattle.mt_chain.proofs.KeyLaws.{key_total, key_ties, text_true}
 use Rattle.mt_chain.proofs.OrderLaws.{lt_less}
-use Rattle.mt_chain.proofs.TextOrder.{text_cmp, le_itself, text_equal}
+use Rattle.mt_chain.proofs.TextOrder.{text_cmp, le_itself}
 use Rattle.mt_history.proofs.ListingLaws.{keys_rise}
 use Rattle.mt_meta.specs.declared.marker.Phase.{Phase}
 use Rattle.mt_meta.specs.declared.marker.Phase.TheVariants.{UseOld, PreferOld, PreferNew}
 use Rattle.mt_meta.specs.declared.marker.NewPhase.{NewPhase}
 use Rattle.mt_meta.specs.declared.marker.NewPhase.TheVariants.{Filling, UseNew}
 use Rattle.mt_scan.specs.declared.unit.Unit.{Unit as PageUnit}
-use Rattle.mt_scan.specs.declared.unit.Unit.TheVariants.{Scan, Gap}
+use Rattle.mt_scan.specs.declared.unit.Unit.TheVariants.{Gap}
 use Rattle.mt_scan.specs.declared.unit.Place.{Place}
 use Rattle.mt_scan.specs.declared.unit.Place.TheVariants as at
 use Rattle.mt_scan.specs.declared.unit.Token.{Token}
@@ -46,10 +43,10 @@ use Rattle.mt_scan.specs.declared.unit.Token.TheVariants as token
 use Rattle.mt_scan.specs.declared.saw.Half.{Half}
 use Rattle.mt_scan.specs.declared.saw.Half.TheVariants.{First, Turned, Closed, Named}
 use Rattle.mt_scan.specs.declared.call.Seen.TheVariants as came
-use Rattle.mt_scan.specs.Units.{place_of, from_row, after_scan, after_gap, after_unit}
-use Rattle.mt_scan.specs.Chunks.{asked_from, asked_range, is_row_key, is_partition_key, is_fair, is_fair_next, lesser, Chunk, IsChunk}
-use Rattle.mt_scan.specs.Pages.{Page, AreBounds, IsKeyedToken, begun, is_end, is_over_at, is_over, side_of, range_at, asks_at, asks, Lead, again, on, chunk, gap, saw_old, saw_turned, saw_closed, saw_rows, saw_next, old_marker, new_marker, read_lead, next_lead, lead_of, with_half, after, IsScan, MakesAt, Makes, told, Comes, Sees, is_behind, MayBe, IsKeyed, AreIn, IsHalf, IsPage}
-use Rattle.mt_scan.proofs.RowLaws.{IsGood, Usable, MayBeGood, IsOf, of_chunk, chunk_end}
+use Rattle.mt_scan.specs.Units.{place_of, from_row, after_scan, after_gap}
+use Rattle.mt_scan.specs.Chunks.{asked_from, asked_range, is_partition_key, is_fair, is_fair_next, lesser, Chunk}
+use Rattle.mt_scan.specs.Pages.{Page, AreBounds, IsKeyedToken, begun, is_end, is_over, side_of, range_at, asks_at, asks, Lead, again, on, chunk, gap, saw_old, saw_turned, saw_closed, saw_rows, saw_next, old_marker, new_marker, read_lead, next_lead, lead_of, with_half, after, IsScan, MakesAt, Makes, Sees, is_behind, MayBe, IsKeyed, AreIn, IsHalf, IsPage}
+use Rattle.mt_scan.proofs.RowLaws.{Usable, MayBeGood, IsOf, of_chunk, chunk_end}
 
 -- ---- at the start
 
@@ -177,7 +174,7 @@ pub less_le : (a b c : List ℕ) → text_cmp a b ≡ Less → is_le (text_cmp b
 less_le a b c less le = go (text_cmp b c) refl le where
   go : (o : Ordering) → text_cmp b c ≡ o → is_le o ≡ true → text_cmp a c ≡ Less
   go Less e h = nat_list_cmp_total.trans a b c less e
-  go Equal e h = subst (λ k. text_cmp a k ≡ Less) (text_equal b c e) less
+  go Equal e h = subst (λ k. text_cmp a k ≡ Less) (text_true b c (texts_ties b c ∙ ap is_eq e)) less
   go Greater e h = absurd (let x = h in cc)
 
 le_less_key : (a b c : Key) → is_le (key_cmp a b) ≡ true → key_cmp b c ≡ Less → key_cmp a c ≡ Less
@@ -229,7 +226,7 @@ past_below (part.From low) x pk before past = ap is_lt (go (text_cmp low x) refl
 past_below (part.After low) x pk before past = ap is_lt (go (text_cmp low x) refl before) where
   go : (o : Ordering) → text_cmp low x ≡ o → not (is_lt o) ≡ true → text_cmp x pk ≡ Less
   go Less e h = absurd (let x = h in cc)
-  go Equal e h = subst (λ k. text_cmp k pk ≡ Less) (text_equal low x e) (lt_less _ past)
+  go Equal e h = subst (λ k. text_cmp k pk ≡ Less) (text_true low x (texts_ties low x ∙ ap is_eq e)) (lt_less _ past)
   go Greater e h = nat_list_cmp_total.trans x low pk (nat_list_cmp_total.antisymm x low ∙ ap ordering_reverse e) (lt_less _ past)
 
 -- ---- the rows of a page, and more behind them

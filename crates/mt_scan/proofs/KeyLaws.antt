@@ -1,5 +1,5 @@
 -- Keys that meet the rules.
-use Rattle.std.proofs.Common.{◌≡◌, ℕ, Bool, not, List, [], Option, Some, None, refl, sym, ap, ◌∙◌, IfOk, Result, Ok, Err, subst}
+use Rattle.std.proofs.Common.{◌≡◌, ℕ, Bool, not, List, [], Option, Some, None, refl, ap, ◌∙◌, IfOk, Result, Ok, Err}
 use Rattle.std.specs.Prelude.{is_some, option_map}
 use Rattle.std.specs.Option.{option_or}
 use Rattle.std.proofs.lemmas.Str.{chars-nil}

@@ -1,5 +1,5 @@
 -- How a page moves with what came of a reply.
-use Rattle.std.proofs.Common.{◌≡◌, ℕ, ◌+◌, ◌-◌, Bool, true, false, List, ◌++◌, length, Option, refl, sym, ap, subst, ◌∙◌, Vec, Global}
+use Rattle.std.proofs.Common.{◌≡◌, ℕ, ◌+◌, ◌-◌, Bool, true, false, List, ◌++◌, length, refl, sym, ap, subst, ◌∙◌, Vec, Global}
 use Rattle.mt_model.specs.declared.entity.Entity.{Entity}
 use Rattle.mt_scan.specs.declared.unit.Unit.{Unit as PageUnit}
 use Rattle.mt_scan.specs.declared.unit.Place.{Place}

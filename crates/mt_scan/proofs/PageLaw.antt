@@ -1,45 +1,35 @@
 -- A step of a page, over two told stores that are a sound pair.
-use Rattle.std.proofs.Common.{◌≡◌, ◌≢◌, ℕ, ◌<◌, ◌≤◌, ◌+◌, Bool, true, false, cond, not, ◌&&◌, nat_lt, List, [], ◌∷◌, ◌++◌, length, take, Option, Some, None, refl, sym, ap, subst, ◌∙◌, arith, inl, Ok, bytes_eq, ◌||◌}
-use Rattle.std.specs.Prelude.{option_map, IfSome}
+use Rattle.std.proofs.Common.{◌≡◌, ℕ, ◌<◌, Bool, true, false, cond, ◌&&◌, nat_lt, List, [], ◌∷◌, length, take, Option, Some, None, refl, sym, ap, subst, ◌∙◌, arith}
+use Rattle.std.specs.Prelude.{option_map}
 use Rattle.std.proofs.lemmas.Bool.{and_parts}
-use Rattle.std.specs.Ordering.{nat_cmp, is_lt, is_le}
+use Rattle.std.specs.Ordering.{nat_cmp, is_le}
 use Rattle.std.specs.Cmp.Lexicographic.{slice_cmp}
-use Rattle.mt_model.specs.declared.entity.Entity.{Entity}
-use Rattle.mt_filter.specs.declared.filter.Filter.{Filter}
 use Rattle.mt_match.specs.declared.bounds.Bounds.{Bounds}
 use Rattle.mt_chain.specs.declared.row.Stored.{Stored}
 use Rattle.mt_chain.specs.declared.row.StoredRow.{StoredRow}
 use Rattle.mt_chain.specs.declared.query.Found.{Found}
-use Rattle.mt_chain.specs.declared.query.Next.{Next}
 use Rattle.mt_chain.specs.declared.query.Range.{Range}
-use Rattle.mt_chain.specs.declared.query.PkFrom.{PkFrom}
-use Rattle.mt_chain.specs.declared.ask.StoreAsk.{StoreAsk}
-use Rattle.mt_chain.specs.declared.ask.StoreReply.{StoreReply}
-use Rattle.mt_chain.specs.declared.ask.StoreReply.TheVariants as reply
-use Rattle.mt_chain.specs.Rows.{Rows, are_rising, has_partition, row_at, row_in, shown, read_end, is_from, is_upto, is_within, is_past, rows_within}
-use Rattle.mt_chain.specs.StoreCall.{Contents, IsContents, IsFound, IsNext as IsNextPartition}
-use Rattle.mt_chain.specs.Asks.{FitsAsk}
-use Rattle.mt_chain.proofs.TextOrder.{text_cmp, le_trans, not_le}
+use Rattle.mt_chain.specs.Rows.{row_at, row_in, shown, read_end, is_from, is_upto, is_within, rows_within}
+use Rattle.mt_chain.specs.StoreCall.{Contents, IsContents, IsFound}
+use Rattle.mt_chain.proofs.TextOrder.{le_trans, not_le}
 use Rattle.mt_chain.proofs.RangeRows.{in_whole, rising_within, up_to_end}
-use Rattle.mt_chain.proofs.RowLaws.{no_partition}
 use Rattle.mt_meta.specs.declared.marker.Phase.{Phase}
 use Rattle.mt_meta.specs.declared.marker.Phase.TheVariants.{UseOld, PreferOld, PreferNew}
 use Rattle.mt_meta.specs.declared.marker.NewPhase.{NewPhase}
 use Rattle.mt_meta.specs.declared.marker.NewPhase.TheVariants.{Filling, UseNew}
 use Rattle.mt_meta.specs.Markers.{marker_key, old_phase_of, new_phase_of}
-use Rattle.mt_meta.specs.Logical.{Pair, OldState, NoOld, AtUseOld, AtPreferOld, AtPreferNew, BadOld, NewState, NoNew, AtFilling, AtUseNew, BadNew, old_says, new_says, old_state, new_state, old_at, new_at, old_state_at, new_state_at, shown_over, logical}
+use Rattle.mt_meta.specs.Logical.{Pair, NoOld, BadOld, AtFilling, AtUseNew, BadNew, old_says, new_says, old_state, new_state, old_at, new_at, old_state_at, new_state_at, shown_over, logical}
 use Rattle.mt_meta.specs.Sound.{IsSound}
-use Rattle.mt_meta.specs.Modes.{Mode, Empty, AtOld, Prepared, Copying, Overlaid, Settled, NewOnly, Broken, mode_of, mode}
+use Rattle.mt_meta.specs.Modes.{Mode, Empty, AtOld, Prepared, Copying, Overlaid, Settled, NewOnly, Broken, mode}
 use Rattle.mt_meta.specs.Facts.{is_prefer_new, is_filling, is_marked}
 use Rattle.mt_meta.specs.ReadRows.{kept_row, kept_in}
-use Rattle.mt_meta.specs.Steps.{AllHold, logical_table}
+use Rattle.mt_meta.specs.Steps.{AllHold}
 use Rattle.mt_meta.proofs.ModeLaws.{IsWhole, old_in, new_in, whole, says}
 use Rattle.mt_meta.proofs.ReadLaws.{marker_read, kept_shown, turned_known, turned_row, closed_read, closed_none}
 use Rattle.mt_meta.proofs.ByMarkers.{is_write_state, shows_old, shows_none, shows_fill, shows_new, shows_nothing}
 use Rattle.mt_scan.specs.declared.unit.Place.TheVariants as at
-use Rattle.mt_scan.specs.declared.saw.Half.{Half}
-use Rattle.mt_scan.specs.declared.saw.Half.TheVariants.{First, Turned, Closed, Named}
-use Rattle.mt_scan.specs.Chunks.{is_fair, rows_of as found_rows, lesser, reads_end}
+use Rattle.mt_scan.specs.declared.saw.Half.TheVariants.{First, Turned, Closed}
+use Rattle.mt_scan.specs.Chunks.{lesser}
 use Rattle.mt_scan.specs.Pages.{range_at, Lead, again, on, chunk, gap, nothing, saw_old, saw_turned, saw_closed, old_marker, new_marker, saw_rows, half_facts}
 use Rattle.mt_scan.specs.PageSteps.{calls_left}
 use Rattle.mt_scan.proofs.ScanLaws.{Agrees}

@@ -1,10 +1,9 @@
 -- The rows of a chunk are the reply to its scan at the logical table, and its end is past its beginning.
 use Rattle.std.proofs.Common.{◌≡◌, ◌≢◌, ℕ, ◌≤◌, arith, Bool, true, false, cond, ◌&&◌, nat_lt, List, [], ◌∷◌, length, Option, Some, None, refl, sym, ap, subst, ◌∙◌, bytes_eq}
 use Rattle.std.specs.Prelude.{option_map, IfSome}
-use Rattle.std.proofs.lemmas.Bool.{and_parts}
 use Rattle.std.proofs.lemmas.Bool.Decides.{nat_tests}
 use Rattle.std.specs.List.{AllByRecursion}
-use Rattle.std.specs.Ordering.{nat_cmp, is_le, is_lt}
+use Rattle.std.specs.Ordering.{nat_cmp, is_le}
 use Rattle.std.specs.Cmp.Lexicographic.{slice_cmp}
 use Rattle.mt_model.specs.declared.key.Key.{Key}
 use Rattle.mt_model.specs.declared.value.Prop.{Prop}
@@ -15,12 +14,11 @@ use Rattle.mt_match.specs.declared.bounds.Bounds.{Bounds}
 use Rattle.mt_match.proofs.Conjuncts.{lies_within}
 use Rattle.mt_match.proofs.Texts.{empty_at_most}
 use Rattle.mt_chain.specs.declared.row.Stored.{Stored}
-use Rattle.mt_chain.specs.declared.row.StoredRow.{StoredRow}
 use Rattle.mt_chain.specs.declared.query.Found.{Found}
 use Rattle.mt_chain.specs.declared.query.RkFrom.{RkFrom}
 use Rattle.mt_chain.specs.declared.query.RkFrom.TheVariants as start
 use Rattle.mt_chain.specs.declared.query.Range.{Range}
-use Rattle.mt_chain.specs.Rows.{row_in, is_from, is_upto, is_within}
+use Rattle.mt_chain.specs.Rows.{is_from, is_upto, is_within}
 use Rattle.mt_chain.specs.Table.{IsListing}
 use Rattle.mt_chain.proofs.KeyLaws.{text_true, text_differs}
 use Rattle.mt_chain.proofs.TextOrder.{text_cmp, le_trans}
@@ -34,7 +32,7 @@ use Rattle.mt_query_plan.specs.Answers.{read_table}
 use Rattle.mt_scan.specs.Units.{from_row}
 use Rattle.mt_scan.specs.Chunks.{asked_from, rows_of as found_rows, reads_end, last_of, cut_at, Chunk, IsChunk}
 use Rattle.mt_scan.specs.Pages.{AreBounds, range_at}
-use Rattle.mt_scan.proofs.RowLaws.{Usable, MayBeGood, IsGood, seen_good, chunk_end}
+use Rattle.mt_scan.proofs.RowLaws.{Usable, seen_good}
 use Rattle.mt_scan.proofs.ChunkLaws.{has_last}
 use Rattle.mt_scan.proofs.FitLaws.{past_row}
 

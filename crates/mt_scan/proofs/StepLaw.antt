@@ -1,34 +1,29 @@
 -- Each step of a page is a step of an actor.
-use Rattle.std.proofs.Common.{◌≡◌, ◌≢◌, ℕ, ◌<◌, ◌≤◌, Bool, true, false, cond, not, ◌&&◌, ◌||◌, ◌==◌, nat_le, List, [], ◌∷◌, ◌++◌, length, Option, Some, None, refl, sym, ap, subst, ◌∙◌, arith, inl, Ok, Less, Equal, Greater, Ordering}
+use Rattle.std.proofs.Common.{◌≡◌, ℕ, ◌<◌, ◌≤◌, Bool, true, false, cond, ◌||◌, ◌==◌, nat_le, List, [], ◌∷◌, Option, Some, None, refl, sym, ap, subst, ◌∙◌, arith, inl, Ok, Less, Equal, Greater, Ordering}
 use Rattle.std.specs.Prelude.{IfSome, option_map}
 use Rattle.std.proofs.lemmas.Bool.{and_parts}
 use Rattle.std.proofs.lemmas.Bool.Decides.{nat_tests}
 use Rattle.std.specs.Ordering.{nat_cmp, is_lt, is_le, ordering_reverse}
 use Rattle.std.specs.Cmp.Lexicographic.{slice_cmp, nat_list_cmp_total}
 use Rattle.mt_filter.specs.declared.filter.Filter.{Filter}
-use Rattle.mt_model.specs.declared.key.Key.{Key}
 use Rattle.mt_model.specs.declared.entity.Entity.{Entity}
-use Rattle.mt_chain.specs.declared.row.Stored.{Stored}
 use Rattle.mt_chain.specs.declared.query.Found.{Found}
 use Rattle.mt_chain.specs.declared.query.Next.{Next}
 use Rattle.mt_chain.specs.declared.query.PkFrom.{PkFrom}
-use Rattle.mt_chain.specs.declared.query.RkFrom.{RkFrom}
 use Rattle.mt_chain.specs.declared.ask.StoreAsk.{StoreAsk}
 use Rattle.mt_chain.specs.declared.ask.StoreReply.{StoreReply}
 use Rattle.mt_chain.specs.declared.ask.StoreReply.TheVariants as reply
-use Rattle.mt_chain.specs.Rows.{Rows, has_partition, row_at, is_from, is_past}
+use Rattle.mt_chain.specs.Rows.{Rows, has_partition, is_from, is_past}
 use Rattle.mt_chain.specs.StoreCall.{Contents, IsContents, IsFound, IsNext as IsNextPartition}
 use Rattle.mt_chain.specs.Asks.{FitsAsk}
 use Rattle.mt_chain.proofs.OrderLaws.{lt_less}
 use Rattle.mt_chain.proofs.RowLaws.{no_partition}
-use Rattle.mt_chain.proofs.TextOrder.{text_cmp, le_trans, not_le}
+use Rattle.mt_chain.proofs.TextOrder.{not_le}
 use Rattle.mt_history.specs.Legal.{IsGap, is_short_of}
-use Rattle.mt_meta.specs.declared.marker.Phase.{Phase}
 use Rattle.mt_meta.specs.declared.marker.NewPhase.{NewPhase}
-use Rattle.mt_meta.specs.declared.marker.NewPhase.TheVariants.{Filling, UseNew}
 use Rattle.mt_meta.specs.declared.fact.Fact.{Fact}
 use Rattle.mt_meta.specs.Markers.{marker_key}
-use Rattle.mt_meta.specs.Logical.{Pair, old_at, new_at, logical}
+use Rattle.mt_meta.specs.Logical.{Pair, logical}
 use Rattle.mt_meta.specs.Sound.{IsSound}
 use Rattle.mt_meta.specs.Facts.{AllPlain, Grows, KnowsClosed, IsBelow}
 use Rattle.mt_meta.specs.Steps.{AllHold, as_row, logical_table, with_old, with_new, PairMeans}
@@ -44,8 +39,8 @@ use Rattle.mt_scan.specs.declared.unit.PageProgress.TheVariants as said
 use Rattle.mt_scan.specs.declared.saw.Half.{Half}
 use Rattle.mt_scan.specs.declared.saw.Half.TheVariants.{First, Turned, Closed, Named}
 use Rattle.mt_scan.specs.Units.{from_row, IsNext, Delivers}
-use Rattle.mt_scan.specs.Chunks.{is_fair, is_fair_next, lesser, Chunk, IsChunk}
-use Rattle.mt_scan.specs.Pages.{Page, is_end, is_over, range_at, asks, Lead, again, on, chunk, gap, old_marker, new_marker, saw_old, saw_turned, saw_closed, saw_rows, saw_first, saw_next, read_lead, next_lead, lead_of, with_half, after, IsScan, MakesAt, Makes, Goes, Comes, Absorbs, AreBounds, MayBe, IsPage, half_facts, page_facts}
+use Rattle.mt_scan.specs.Chunks.{is_fair, is_fair_next, lesser, Chunk}
+use Rattle.mt_scan.specs.Pages.{Page, is_end, is_over, range_at, asks, Lead, again, on, chunk, gap, saw_rows, saw_first, read_lead, next_lead, lead_of, with_half, after, IsScan, MakesAt, Comes, Absorbs, MayBe, IsPage, half_facts, page_facts}
 use Rattle.mt_scan.specs.PageSteps.{calls_left, DoesUnit, Does, PageStep}
 use Rattle.mt_scan.proofs.RowLaws.{MayBeGood, chunk_end}
 use Rattle.mt_scan.proofs.FitLaws.{LeadFits, fit_of, past_row, less_le}
@@ -245,12 +240,12 @@ stepped page to (at.Rows pk row) (Turned old) (reply.Found found) answer p q ret
     let here = page_at page (at.Rows pk row) (Turned old) in
     subst (λ x. Stepped here to retired answer p x) (sym (new_same p q m.0.0 m.1))
     (rows_step here fits going p retired sound pk row refl (lead_of (at.Rows pk row) (Turned old) (reply.Found found)) answer to
-        (new_read here fits going p retired sound a b pk row (Turned old) found (then_turned here.bounds pk row p retired sound found b m.0.1 old facts) m.0.1) (fit_of here fits (reply.Found found) fit) absorbs)
+    (new_read here fits going p retired sound a b pk row (Turned old) found (then_turned here.bounds pk row p retired sound found b m.0.1 old facts) m.0.1) (fit_of here fits (reply.Found found) fit) absorbs)
 stepped page to (at.Rows pk row) Closed (reply.Found found) answer p q retired fits going sound a b facts fit m absorbs =
     let here = page_at page (at.Rows pk row) Closed in
     subst (λ x. Stepped here to retired answer p x) (sym (new_same p q m.0.0 m.1))
     (rows_step here fits going p retired sound pk row refl (lead_of (at.Rows pk row) Closed (reply.Found found)) answer to
-        (new_read here fits going p retired sound a b pk row Closed found (then_closed here.bounds pk row p retired sound found b m.0.1 facts) m.0.1) (fit_of here fits (reply.Found found) fit) absorbs)
+    (new_read here fits going p retired sound a b pk row Closed found (then_closed here.bounds pk row p retired sound found b m.0.1 facts) m.0.1) (fit_of here fits (reply.Found found) fit) absorbs)
 stepped page to (at.Rows pk row) (Named next) (reply.Found found) answer p q retired fits going sound a b facts fit m absorbs = absurd fits.half
 stepped page to (at.Rows pk row) half r answer p q retired fits going sound a b facts fit m absorbs = absurd fit
 stepped page to (at.Parts from) First (reply.Next next) answer p q retired fits going sound a b facts fit m absorbs =

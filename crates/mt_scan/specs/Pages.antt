@@ -1,5 +1,5 @@
 -- A page: where it is, what it asks there, and how it moves with each reply.
-use Rattle.std.specs.Prelude.{◌≡◌, ◌⊎◌, ℕ, ◌+◌, ◌-◌, Bool, true, false, not, ◌||◌, ◌==◌, nat_le, IsTrue, IfSome, List, [], ◌∷◌, ◌++◌, length, Option, Some, None, option_map, Result, Ok, Err, if◌then◌else◌}
+use Rattle.std.specs.Prelude.{◌≡◌, ◌⊎◌, ℕ, ◌+◌, ◌-◌, Bool, true, false, not, ◌||◌, ◌==◌, nat_le, List, [], ◌∷◌, ◌++◌, length, Option, Some, None, option_map, Result, Ok, Err}
 use Rattle.std.specs.List.{AllByRecursion}
 use Rattle.std.specs.Ordering.{nat_cmp, is_lt, is_le}
 use Rattle.std.specs.Cmp.Lexicographic.{slice_cmp}
@@ -52,7 +52,7 @@ use Rattle.mt_scan.specs.declared.saw.SeenRows.TheVariants as rows
 use Rattle.mt_scan.specs.declared.saw.SeenNext.{SeenNext}
 use Rattle.mt_scan.specs.declared.saw.SeenNext.TheVariants as next
 use Rattle.mt_scan.specs.Units.{from_row, after_unit, place_of}
-use Rattle.mt_scan.specs.Chunks.{asked_range, is_row_key, is_partition_key, is_readable, is_fair, is_fair_next, lesser, rows_of, Chunk, IsChunk}
+use Rattle.mt_scan.specs.Chunks.{asked_range, is_row_key, is_partition_key, is_fair, is_fair_next, lesser, IsChunk}
 
 -- a page: its filter with the bounds of keys, the room that is left in it, its rows and how many units it has so far, and where it is: the next unit's place with what that unit's first call showed
 pub record Page : Type 0 where

@@ -1,6 +1,5 @@
 -- Units of pages, the places between them, and what a unit says of a table.
-use Rattle.std.specs.Prelude.{◌≡◌, ℕ, Bool, true, List, Option, Some, None, IfSome, if◌then◌else◌}
-use Rattle.mt_model.specs.declared.key.Key.{Key}
+use Rattle.std.specs.Prelude.{◌≡◌, ℕ, true, List, Option, Some, None, IfSome, if◌then◌else◌}
 use Rattle.mt_model.specs.declared.entity.Entity.{Entity}
 use Rattle.mt_filter.specs.declared.filter.Filter.{Filter}
 use Rattle.mt_match.specs.declared.bounds.Bounds.{Bounds}

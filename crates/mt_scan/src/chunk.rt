@@ -170,7 +170,16 @@ pub(crate) fn chunk_of(
     ensures { IfOk result (λ c. IsChunk pk.now filter.now phase room (option_copied old.entry) (option_copied new.entry) (record { rows = c.rows.items; upto = c.upto })) }
 {
     let end = lesser(end_of(old), end_of(new));
-    let rows = first_rows(alloc, pk, filter, phase, room, end, rows_of(old), rows_of(new))?;
+    let rows = first_rows(
+        alloc,
+        pk,
+        filter,
+        phase,
+        room,
+        end,
+        rows_of(old),
+        rows_of(new),
+    )?;
     let upto = copy_end(alloc, cut_at(room, end, rows.as_slice()))?;
     Ok(Chunk { rows, upto })
 }

@@ -101,7 +101,15 @@ fn see_old(
 {
     match old_marker_of(&found) {
         Some(Some(Phase::UseOld | Phase::PreferOld)) => {
-            see_chunk(alloc, pk, filter, room, NewPhase::Filling, Some(&found), None)
+            see_chunk(
+                alloc,
+                pk,
+                filter,
+                room,
+                NewPhase::Filling,
+                Some(&found),
+                None,
+            )
         }
         Some(Some(Phase::PreferNew)) => Ok(SeenRows::On(Half::Turned(found))),
         Some(None) => Ok(SeenRows::Again),
@@ -124,7 +132,15 @@ fn see_turned(
 {
     match new_marker_of(found) {
         Some(Some(NewPhase::Filling)) => {
-            see_chunk(alloc, pk, filter, room, NewPhase::Filling, Some(old), Some(found))
+            see_chunk(
+                alloc,
+                pk,
+                filter,
+                room,
+                NewPhase::Filling,
+                Some(old),
+                Some(found),
+            )
         }
         Some(Some(NewPhase::UseNew)) => {
             see_chunk(alloc, pk, filter, room, NewPhase::UseNew, None, Some(found))

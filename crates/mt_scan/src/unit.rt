@@ -21,7 +21,10 @@ pub enum Unit {
     },
 
     /// That no row has a partition key from a place on and up to, but not including, another.
-    Gap { from: PkFrom, to: Option<Text> },
+    Gap {
+        from: PkFrom,
+        to: Option<Text>,
+    },
 }
 
 /// What a step of a page came to.

@@ -1,10 +1,9 @@
-use Rattle.std.proofs.Common.{Bool, nat_lt, List, [], length, Option, option_map, option_copied, ap, sym, subst, ◌∙◌}
+use Rattle.std.proofs.Common.{Bool, nat_lt, List, length, Option, option_map, option_copied, ap, sym, subst, ◌∙◌}
 use Rattle.mt_model.specs.declared.entity.Entity.{Entity}
 use Rattle.mt_chain.specs.declared.row.StoredRow.{StoredRow}
 use Rattle.mt_chain.specs.TwoLists.{first_row, rows_past}
 use Rattle.mt_query_plan.specs.Answers.{wanted_over, with_key, with_one}
-use Rattle.mt_query_plan.proofs.WalkLaws.{Walked, walk_start, walk_more}
-use Rattle.mt_scan.specs.Chunks.{next_key, AreFirst}
+use Rattle.mt_scan.specs.Chunks.{next_key}
 use Rattle.mt_scan.proofs.ChunkLaws.{Finding, none_found, found_more, all_found}
 use Rattle.mt_scan.proofs.chunk.first_rows.Goals as goal
 
@@ -32,8 +31,8 @@ loop-rk-preserved c =
     (subst (λ (o : List StoredRow). Finding pk test phase rows entries c.args.room (option_copied c.args.end) (with_one found (option_map (with_key pk m) (wanted_over pk test phase m (first_row m old) (first_row m new)))) o c.rows_past-new.result.now) (sym c.rows_past-old.ensures)
     (subst (λ (n : List StoredRow). Finding pk test phase rows entries c.args.room (option_copied c.args.end) (with_one found (option_map (with_key pk m) (wanted_over pk test phase m (first_row m old) (first_row m new)))) (rows_past m old) n) (sym c.rows_past-new.ensures)
     (found_more pk test phase rows entries c.args.room (option_copied c.args.end) found old new m c.loop-rk.invariant
-        (ap (λ (es : List Entity). next_key (nat_lt (length es) c.args.room) (option_copied c.args.end) old new) (sym c.deref.ensures.value)
-        ∙ ap (λ (b : Bool). next_key b (option_copied c.args.end) old new) (sym c.has_room.ensures) ∙ sym c.in-Some.ensures))))
+    (ap (λ (es : List Entity). next_key (nat_lt (length es) c.args.room) (option_copied c.args.end) old new) (sym c.deref.ensures.value)
+    ∙ ap (λ (b : Bool). next_key b (option_copied c.args.end) old new) (sym c.has_room.ensures) ∙ sym c.in-Some.ensures))))
 
 pub returns : goal.returns
 returns c = all_found c.args.pk.now c.args.filter.now c.args.phase c.args.rows.now c.args.entries.now c.args.room (option_copied c.args.end) c.loop-rk.found.items c.loop-rk.old.now c.loop-rk.new.now c.requires.room c.loop-rk.invariant

@@ -54,4 +54,4 @@ returns-in_ok-append-in-Done c =
     subst (λ (p : Page). Comes p (lead_of p.place p.half c.args.reply) c.told.result to) c.self.view_is
     (subst (λ (said : PageProgress). Comes page (lead_of page.place page.half c.args.reply) said to) (sym c.told.ensures)
     (done_moves page to (lead_of page.place page.half c.args.reply) c.in-Done.unit c.in-Done.rows.items c.is_over_at-over.result made.0
-        (after_is page c.in-Done.unit c.in-Done.rows.items _ _ c.in-Done.place (ap length c.as_slice.ensures.value) c.in_ok-append-in-Done.ensures.items made.1) c.is_over_at-over.ensures))
+    (after_is page c.in-Done.unit c.in-Done.rows.items _ _ c.in-Done.place (ap length c.as_slice.ensures.value) c.in_ok-append-in-Done.ensures.items made.1) c.is_over_at-over.ensures))

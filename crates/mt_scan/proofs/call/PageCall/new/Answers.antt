@@ -1,9 +1,6 @@
-use Rattle.std.proofs.Common.{List, ap, ◌∙◌, sym, subst}
-use Rattle.mt_model.specs.declared.entity.Entity.{Entity}
-use Rattle.mt_scan.specs.declared.unit.Place.{Place}
-use Rattle.mt_scan.specs.declared.saw.Half.TheVariants.{First}
-use Rattle.mt_scan.specs.Pages.{Page, place_in, begun, is_over, IsPage}
-use Rattle.mt_scan.proofs.FitLaws.{page_at, begun_is, start_fits, start_goes}
+use Rattle.std.proofs.Common.{ap, ◌∙◌, sym, subst}
+use Rattle.mt_scan.specs.Pages.{is_over, IsPage}
+use Rattle.mt_scan.proofs.FitLaws.{begun_is, start_fits, start_goes}
 use Rattle.mt_scan.proofs.call.PageCall.new.Goals as goal
 
 pub invariant_of-result : goal.invariant_of-result
