@@ -68,8 +68,9 @@ fn copy_of(alloc: Global, pk: &Text, rk: &Text, sight: Sight<'_>) -> Result<Enti
     })
 }
 
-/// The row that a client is answered at a key, which alone is copied.
-fn wanted(
+/// The row that a client is answered at a key of a partition by a row of old and an entry of new there:
+/// what clients see, where the filter matches it. It alone is copied. The one error is want of memory.
+pub fn wanted(
     alloc: Global,
     pk: &Text,
     filter: &Option<Filter>,
@@ -87,7 +88,8 @@ fn wanted(
     }
 }
 
-fn push_one(found: &mut Vec<Entity>, wanted: Option<Entity>) -> Result<(), NoMemory>
+/// Adds the row, if there is one. The one error is want of memory.
+pub fn push_one(found: &mut Vec<Entity>, wanted: Option<Entity>) -> Result<(), NoMemory>
     ensures { IfOk result (λ u. found.new.items ≡ with_one found.old.items wanted) }
 {
     if let Some(entity) = wanted {

@@ -7,5 +7,6 @@ mod place;
 mod range;
 mod saw;
 
+pub use answer::{push_one, wanted};
 pub use call::{QueryCall, QueryProgress};
 pub use place::{AfterOld, Place};

@@ -1,0 +1,10 @@
+pub mod ChunkLaws
+pub mod KeyLaws
+pub mod CallLaws
+pub mod RowLaws
+pub mod FitLaws
+pub mod MoveLaws
+pub mod ScanLaws
+pub mod PageLaw
+pub mod FairLaws
+pub mod StepLaw

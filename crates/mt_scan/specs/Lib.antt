@@ -1,0 +1,4 @@
+pub mod Units
+pub mod Chunks
+pub mod Pages
+pub mod PageSteps
