@@ -1,8 +1,8 @@
 //! The bytes of a reply, written once into room that was taken before.
-ghost use Rattle.std.specs.Prelude.{◌≡◌, ◌≤◌, ◌++◌, length, decimal, IfSome, OnOk, OnErr};
+ghost use Rattle.std.specs.Prelude.{◌≡◌, ◌≤◌, ◌++◌, Bool, length, decimal, IfSome, OnOk, OnErr};
 ghost use Rattle.http.specs.StatusCode.{IsStatusCode};
 ghost use Rattle.mt_json.specs.Draft.{HasRoom, Appends};
-ghost use Rattle.mt_http_out.specs.Rendering.{IsReply, phrase_of, status_line, line_of, field_lines, length_line, close_line, head_bytes, bytes_of};
+ghost use Rattle.mt_http_out.specs.Rendering.{IsReply, phrase_of, status_line, line_of, field_lines, length_line, close_line, head_bytes, bytes_closing, bytes_of, inner_bytes};
 
 use crate::reply::{Reply, ReplyField};
 use http::StatusCode;
@@ -17,7 +17,7 @@ const LINE_BYTES: usize = 4;
 const FRAME_BYTES: usize = 128;
 
 /// Writes the bytes. It takes no memory.
-fn put(room: &mut Vec<u8>, bytes: &[u8])
+pub fn put(room: &mut Vec<u8>, bytes: &[u8])
     requires { HasRoom room.old bytes.now }
     ensures { Appends room.old bytes.now room.new }
 {
@@ -37,7 +37,8 @@ fn phrase(status: u16) -> &'static str
     }
 }
 
-fn put_status(room: &mut Vec<u8>, status: u16)
+/// Writes the status line.
+pub fn put_status(room: &mut Vec<u8>, status: u16)
     requires code { IsStatusCode status }
     requires room { HasRoom room.old (status_line status) }
     ensures { Appends room.old (status_line status) room.new }
@@ -51,7 +52,7 @@ fn put_status(room: &mut Vec<u8>, status: u16)
 }
 
 /// Writes the line of a field.
-fn put_line(room: &mut Vec<u8>, name: &str, value: &str)
+pub fn put_line(room: &mut Vec<u8>, name: &str, value: &str)
     requires { HasRoom room.old (line_of name.now value.now) }
     ensures { Appends room.old (line_of name.now value.now) room.new }
 {
@@ -71,7 +72,8 @@ fn put_fields(room: &mut Vec<u8>, fields: &[ReplyField])
     }
 }
 
-fn put_length(room: &mut Vec<u8>, status: u16, size: usize)
+/// Writes Content-Length, but for a 204.
+pub fn put_length(room: &mut Vec<u8>, status: u16, size: usize)
     requires { HasRoom room.old (length_line status size) }
     ensures { Appends room.old (length_line status size) room.new }
 {
@@ -81,7 +83,8 @@ fn put_length(room: &mut Vec<u8>, status: u16, size: usize)
     }
 }
 
-fn put_close(room: &mut Vec<u8>, close: bool)
+/// Writes `Connection: close`, where the connection ends.
+pub fn put_close(room: &mut Vec<u8>, close: bool)
     requires { HasRoom room.old (close_line close) }
     ensures { Appends room.old (close_line close) room.new }
 {
@@ -103,14 +106,15 @@ fn put_head(room: &mut Vec<u8>, status: u16, fields: &[ReplyField], size: usize,
     put(room, b"\r\n");
 }
 
-fn put_reply(room: &mut Vec<u8>, reply: &Reply)
+/// Writes the reply, with this in place of its `close`.
+fn put_reply(room: &mut Vec<u8>, reply: &Reply, close: bool)
     requires code { IsStatusCode reply.now.status }
-    requires room { HasRoom room.old (bytes_of reply.now) }
-    ensures { Appends room.old (bytes_of reply.now) room.new }
+    requires room { HasRoom room.old (bytes_closing close reply.now) }
+    ensures { Appends room.old (bytes_closing close reply.now) room.new }
 {
     let body = reply.body.as_slice();
     let fields = reply.fields.as_slice();
-    put_head(room, reply.status, fields, body.len(), reply.close);
+    put_head(room, reply.status, fields, body.len(), close);
     put(room, body);
 }
 
@@ -132,15 +136,30 @@ fn fields_size(fields: &[ReplyField]) -> Option<usize>
     }
 }
 
-/// Room for the reply, where its size is one that memory is counted in.
+/// Room for the reply, whether the connection ends or not, where its size is one that memory is counted
+/// in.
 fn room_for(reply: &Reply) -> Option<usize>
     requires { IsReply reply.now }
-    ensures { IfSome result (λ n. length (bytes_of reply.now) ≤ n) }
+    ensures { IfSome result (λ n. (close : Bool) → length (bytes_closing close reply.now) ≤ n) }
 {
     let fields = fields_size(reply.fields.as_slice())?;
     fields
         .checked_add(reply.body.as_slice().len())?
         .checked_add(FRAME_BYTES)
+}
+
+/// Adds the reply, with this in place of its `close`.
+fn add(reply: &Reply, close: bool, into: &mut Vec<u8>) -> Result<(), NoMemory>
+    requires { IsReply reply.now }
+    ensures ok { OnOk result (into.new.items ≡ into.old.items ++ bytes_closing close reply.now) }
+    ensures err { OnErr result (into.new.items ≡ into.old.items) }
+{
+    let Some(size) = room_for(reply) else {
+        return Err(NoMemory);
+    };
+    into.reserve(size)?;
+    put_reply(into, reply, close);
+    Ok(())
 }
 
 /// Adds the bytes of a reply behind what stands there: the status line with the reason phrase of the
@@ -152,10 +171,14 @@ pub fn render(reply: &Reply, into: &mut Vec<u8>) -> Result<(), NoMemory>
     ensures ok { OnOk result (into.new.items ≡ into.old.items ++ bytes_of reply.now) }
     ensures err { OnErr result (into.new.items ≡ into.old.items) }
 {
-    let Some(size) = room_for(reply) else {
-        return Err(NoMemory);
-    };
-    into.reserve(size)?;
-    put_reply(into, reply);
-    Ok(())
+    add(reply, reply.close, into)
+}
+
+/// The same without Connection, as a reply stands in a multipart body; its `close` is not looked at.
+pub fn render_inner(reply: &Reply, into: &mut Vec<u8>) -> Result<(), NoMemory>
+    requires { IsReply reply.now }
+    ensures ok { OnOk result (into.new.items ≡ into.old.items ++ inner_bytes reply.now) }
+    ensures err { OnErr result (into.new.items ≡ into.old.items) }
+{
+    add(reply, false, into)
 }

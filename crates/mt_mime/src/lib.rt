@@ -1,0 +1,13 @@
+//! Change sets (OData 3, batch processing) in and out: bodies of multipart/mixed (RFC 2046) whose parts are
+//! requests and replies of HTTP/1.1 (RFC 9112).
+#![tactic(auto)]
+
+mod changes;
+mod headers;
+mod lines;
+mod marks;
+mod media;
+mod split;
+
+pub use changes::{MimeFault, Part, read_changes};
+pub use media::boundary_of;
