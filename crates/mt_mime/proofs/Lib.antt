@@ -4,4 +4,5 @@ mod PartLaws
 mod MediaLaws
 mod HeaderLaws
 mod ChangeLaws
+mod ReplyLaws
 pub mod Theorems

@@ -4,3 +4,6 @@ pub mod Parts
 pub mod Headers
 pub mod MediaTypes
 pub mod Changes
+pub mod Replies
+pub mod Rooms
+pub mod Drafts
