@@ -1,5 +1,5 @@
 -- Operations, change sets and batches are spelled in one way.
-use Rattle.std.proofs.Common.{◌≡◌, ℕ, ◌+◌, ◌<◌, ◌≤◌, Bool, true, false, List, [], ◌∷◌, ◌++◌, length, take, drop, map, get_or, Option, Some, None, Bor, refl, sym, ap, ◌∙◌, subst}
+use Rattle.std.proofs.Common.{◌≡◌, ℕ, ◌+◌, ◌<◌, ◌≤◌, true, false, List, [], ◌∷◌, ◌++◌, length, take, drop, map, get_or, Some, None, Bor, refl, sym, ap, ◌∙◌, subst}
 use Rattle.std.specs.Prelude.{option_map, codes}
 use Rattle.std.specs.List.{AllZip}
 use Rattle.std.proofs.lemmas.List.{take_more, drop_more, take_all, take-append-drop, map-append}
@@ -11,7 +11,7 @@ use Rattle.mt_http_in.specs.Heads.{HoldsHead, fields_of}
 use Rattle.mt_mime.specs.declared.changes.Part.{Part}
 use Rattle.mt_mime.specs.declared.headers.Peeled.{Peeled}
 use Rattle.mt_mime.specs.Headers.{HasFields, HasNoFields, Peels, content_type, IsInnerHead, HasNoInnerHead}
-use Rattle.mt_mime.specs.Parts.{BodyPart, Multipart, HasParts, HasNoParts, texts_of, part_text, Splits}
+use Rattle.mt_mime.specs.Parts.{Multipart, HasParts, HasNoParts, texts_of, Splits}
 use Rattle.mt_mime.specs.Changes.{Operation, is_of, SpellsOperation, part_of, ChangeSet, boundary_in, SpellsSet, Batch, SpellsBatch, HasNoBatch, parts_of, bytes_in, ReadsAll, SpellsNone}
 use Rattle.mt_mime.proofs.MarkLaws.{clash}
 use Rattle.mt_mime.proofs.PartLaws.{parts_unique}

@@ -1,21 +1,21 @@
 -- Fields and heads in a part, as `httparse` finds them.
 use Rattle.std.proofs.Common.{◌≡◌, ℕ, ◌≤◌, Bool, true, false, not, List, [], ◌∷◌, ◌++◌, length, take, drop, map, refl, sym, ap, ◌∙◌, arith, append-nil, subst}
-use Rattle.std.specs.Prelude.{IsTrue, ◌==◌, ◌&&◌, Option, option_map, codes}
+use Rattle.std.specs.Prelude.{IsTrue, ◌==◌, ◌&&◌, option_map, codes}
 use Rattle.std.specs.Borrow.{Bor}
 use Rattle.std.proofs.lemmas.Bool.Decides.{Decides-eqb}
 use Rattle.std.proofs.lemmas.List.{take_at, length-map, length-take-le}
 use Rattle.std.proofs.lemmas.List.Elements.{All-head}
 use Rattle.httparse.specs.declared.spans.HeaderSpan.{HeaderSpan}
-use Rattle.httparse.specs.Grammar.{LineEnd, crlf, lf, Field, is_token_byte, IsToken, print_blank, print_version, print_end, print_section, RequestHead, IsRequestHead, print_request, ReadsSection}
+use Rattle.httparse.specs.Grammar.{LineEnd, crlf, lf, Field, is_token_byte, IsToken, print_blank, print_version, print_end, print_section, RequestHead, IsRequestHead, print_request}
 use Rattle.httparse.specs.Spans.{header_bytes, name_and_value, AreFieldsAt, IsSectionAt}
 use Rattle.httparse.proofs.GrammarLemmas.{print_request-append, section_unique, request_unique}
 use Rattle.mt_http_in.specs.Fields.{first_value}
-use Rattle.mt_http_in.specs.Heads.{IsHead, HoldsHead, ParsedAs, field_at, field_of, NeverHasHead, IsHeadBegun}
+use Rattle.mt_http_in.specs.Heads.{IsHead, HoldsHead, ParsedAs, field_at, NeverHasHead, IsHeadBegun}
 use Rattle.mt_http_in.specs.declared.heads.Head.{Head}
 use Rattle.mt_http_in.specs.declared.heads.Parsed.TheVariants.{Whole}
 use Rattle.mt_http_in.proofs.HeadLaws.{fields_at_are}
 use Rattle.mt_mime.specs.declared.headers.Peeled.{Peeled}
-use Rattle.mt_mime.specs.Headers.{is_paired, starts_plain, is_strict, AreFields, HasFields, HasFieldsAt, HasNoFields, Peels, content_type, IsInnerHead, HasNoInnerHead}
+use Rattle.mt_mime.specs.Headers.{is_paired, starts_plain, is_strict, AreFields, HasFields, HasFieldsAt, Peels, IsInnerHead, HasNoInnerHead}
 use Rattle.mt_mime.proofs.MarkLaws.{clash}
 
 unlike : (b : Bool) → (b ≡ true → ⊥) → not b ≡ true

@@ -1,9 +1,8 @@
 -- Pieces between semicolons, as they are read.
-use Rattle.std.proofs.Common.{◌≡◌, ℕ, ◌+◌, ◌<◌, ◌≤◌, Bool, true, false, not, cond, List, [], ◌∷◌, ◌++◌, length, take, drop, get_or, refl, sym, ap, ◌∙◌, append_assoc, append-nil, subst}
-use Rattle.std.specs.Prelude.{◌==◌, ◌&&◌}
+use Rattle.std.proofs.Common.{◌≡◌, ℕ, ◌+◌, ◌<◌, ◌≤◌, Bool, true, false, cond, List, [], ◌∷◌, ◌++◌, length, take, drop, get_or, refl, sym, ap, ◌∙◌, append_assoc, append-nil}
 use Rattle.std.proofs.lemmas.List.{take_more, drop_more, drop_all, take_all}
 use Rattle.mt_http_in.specs.Fields.{onto}
-use Rattle.mt_mime.specs.MediaTypes.{is_quote, is_semicolon, ends_piece, quoted_behind, pieces, before_all}
+use Rattle.mt_mime.specs.MediaTypes.{ends_piece, quoted_behind, pieces, before_all}
 
 before_onto : (xs : List ℕ) (c : ℕ) (ps : List (List ℕ)) → before_all xs (onto c ps) ≡ before_all (xs ++ c ∷ []) ps
 before_onto xs c [] = refl

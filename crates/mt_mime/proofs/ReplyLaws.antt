@@ -1,6 +1,6 @@
 -- The replies of forms, how long they are, and that they are those to their operations.
 use Rattle.std.proofs.Common.{◌≡◌, ℕ, zero, suc, ◌+◌, ◌^◌, ◌<◌, ◌≤◌, Bool, true, false, List, [], ◌∷◌, ◌++◌, length, drop, take, get_or, refl, sym, ap, ◌∙◌, subst, append-nil, append_assoc, length-append, arith, lit<}
-use Rattle.std.specs.Prelude.{codes, decimal, All, vec_len, vec_capacity}
+use Rattle.std.specs.Prelude.{codes, decimal, vec_len, vec_capacity}
 use Rattle.std.specs.List.{AllZip, flat_map}
 use Rattle.std.specs.Global.{Vec}
 use Rattle.std.proofs.lemmas.Fmt.{length-decimal-le}
@@ -14,13 +14,12 @@ use Rattle.mt_json.specs.Draft.{text_of, HasRoom, Appends}
 use Rattle.mt_json.proofs.RoomLaws.{appends_then, room_next}
 use Rattle.mt_chain.specs.declared.op.Op.{Op}
 use Rattle.mt_http_out.specs.declared.reply.Reply.{Reply}
-use Rattle.mt_http_out.specs.declared.reply.ReplyField.{ReplyField}
 use Rattle.mt_http_out.specs.Rendering.{IsReply, line_of, field_lines, status_line, length_line, close_line, line_end, bytes_of, bytes_closing, inner_bytes}
 use Rattle.mt_http_out.proofs.ReplyLaws.{reply_fits}
 use Rattle.mt_mime.specs.declared.forms.Echo.{Echo}
 use Rattle.mt_mime.specs.declared.forms.Form.{Form}
 use Rattle.mt_mime.specs.declared.forms.Form.TheVariants as form
-use Rattle.mt_mime.specs.Replies.{json_field, tag_field, applied_field, multipart_field, created, no_content, tagged, gone, reply_with, reply_by, replies_by, part_bytes, changes_body, accepted, answer_by, HasEcho, RepliesTo, RepliesToAll, Answers, IsFormOf, AreForms, AreTags}
+use Rattle.mt_mime.specs.Replies.{json_field, tag_field, applied_field, multipart_field, created, no_content, tagged, gone, reply_by, replies_by, part_bytes, accepted, answer_by, HasEcho, RepliesToAll, Answers, IsFormOf, AreForms, AreTags}
 
 -- ---- each form is a reply
 

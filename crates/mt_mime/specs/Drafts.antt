@@ -1,14 +1,12 @@
 -- Drafts: replies that have all their room before the tags are known.
-use Rattle.std.specs.Prelude.{◌≡◌, ℕ, ◌≤◌, Bool, false, List, [], length, All, vec_capacity}
-use Rattle.std.specs.Global.{Vec}
+use Rattle.std.specs.Prelude.{◌≡◌, ℕ, Bool, List, length}
 use Rattle.mt_model.specs.declared.tag.Tag.{Tag}
 use Rattle.mt_chain.specs.declared.op.Op.{Op}
 use Rattle.mt_http_out.specs.declared.reply.Reply.{Reply}
 use Rattle.mt_http_out.specs.Rendering.{bytes_of}
 use Rattle.mt_mime.specs.declared.forms.Echo.{Echo}
-use Rattle.mt_mime.specs.declared.forms.Form.{Form}
 use Rattle.mt_mime.specs.declared.waiting.Draft.{Draft}
-use Rattle.mt_mime.specs.Replies.{Answers, AreTags, answer_by}
+use Rattle.mt_mime.specs.Replies.{Answers, answer_by}
 
 -- the bytes of the draft's reply with these tags
 abbrev pub bytes_by : Draft → List Tag → List ℕ

@@ -11,8 +11,7 @@ use mt_model::Tag;
 /// The numbers of a tag are within the limits of a tag. Only the proof needs to be told.
 fn is_tag(_tag: Tag)
     ensures { IsTag _tag }
-{
-}
+{}
 
 /// So are those of each tag.
 fn are_tags(tags: &[Tag])

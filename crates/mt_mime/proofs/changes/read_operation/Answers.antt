@@ -1,4 +1,4 @@
-use Rattle.std.proofs.Common.{drop, sym, ◌∙◌, ◌≡◌}
+use Rattle.std.proofs.Common.{sym, ◌∙◌}
 use Rattle.std.proofs.lemmas.List.{take_rest}
 use Rattle.std.proofs.lemmas.Result.{IfOk-weaker}
 use Rattle.mt_mime.proofs.ChangeLaws.{operation_made, no_operation_type, no_operation_head}

@@ -1,5 +1,4 @@
-use Rattle.std.proofs.Common.{List, ℕ, Bor, sym, subst, ap, ◌∙◌}
-use Rattle.std.specs.Prelude.{option_map}
+use Rattle.std.proofs.Common.{List, ℕ, Bor, subst}
 use Rattle.std.proofs.lemmas.Result.{IfOk-weaker, IfErr-weaker}
 use Rattle.mt_mime.specs.Changes.{bytes_in, ReadsAll, SpellsNone}
 use Rattle.mt_mime.proofs.ChangeLaws.{set_made, no_set_boundary, no_set_parts, no_set_operations}

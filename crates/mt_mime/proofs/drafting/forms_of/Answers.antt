@@ -1,4 +1,4 @@
-use Rattle.std.proofs.Common.{◌<◌, ◌+◌, List, take, get_or, length, slice_index_or, sym, subst, arith}
+use Rattle.std.proofs.Common.{◌+◌, List, take, slice_index_or, sym, subst, arith}
 use Rattle.std.proofs.lemmas.Slice.Zip.{AllZip-long}
 use Rattle.mt_chain.specs.declared.op.Op.{Op}
 use Rattle.mt_json.specs.declared.write.Level.TheVariants as level

@@ -1,8 +1,7 @@
-use Rattle.std.proofs.Common.{List, take, sym, subst}
+use Rattle.std.proofs.Common.{take, sym, subst}
 use Rattle.std.specs.Prelude.{All}
 use Rattle.std.proofs.lemmas.List.{take_more, take_all}
 use Rattle.std.proofs.lemmas.List.Elements.{All-push}
-use Rattle.mt_model.specs.declared.tag.Tag.{Tag}
 use Rattle.mt_model.specs.Tag.{IsTag}
 use Rattle.mt_mime.proofs.finishing.are_tags.Goals as goal
 

@@ -1,9 +1,9 @@
-use Rattle.std.proofs.Common.{List, ℕ, sym, subst}
+use Rattle.std.proofs.Common.{sym, subst}
 use Rattle.mt_json.specs.Draft.{Appends}
 use Rattle.mt_http_out.specs.Rendering.{field_lines}
 use Rattle.mt_mime.specs.declared.forms.Form.{Form}
 use Rattle.mt_mime.specs.Replies.{fields_by}
-use Rattle.mt_mime.proofs.ReplyLaws.{one_line, two_lines}
+use Rattle.mt_mime.proofs.ReplyLaws.{two_lines}
 use Rattle.mt_mime.proofs.replying.put_fields.Goals as goal
 
 pub returns-in-NoContent : goal.returns-in-NoContent

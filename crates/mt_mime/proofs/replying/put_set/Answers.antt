@@ -1,6 +1,5 @@
-use Rattle.std.proofs.Common.{[], ◌∷◌, ◌∙◌, ◌++◌, ap, length, subst, ℕ, List}
+use Rattle.std.proofs.Common.{[], ◌∷◌, ◌∙◌, ◌++◌, ap, ℕ}
 use Rattle.mt_http_out.specs.Rendering.{head_bytes}
-use Rattle.mt_json.specs.Draft.{Appends}
 use Rattle.mt_mime.specs.Replies.{replies_by, changes_body, multipart_field}
 use Rattle.mt_mime.proofs.ReplyLaws.{size_is, turned}
 use Rattle.mt_mime.proofs.replying.put_set.Goals as goal
