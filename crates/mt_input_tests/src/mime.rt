@@ -182,24 +182,33 @@ fn hostile_bodies_are_read_soon(rt: HostRuntime) -> Result<(), Fail> {
     let alloc = rt.alloc();
     let empty = repeated(alloc, b"", b"--b\r\n", 100_000, b"--b--\r\n--a--")?;
     assert!(rt; count(alloc, b"a", &empty) == None);
-    let open = repeated(alloc, FIRST, b"--bb\r\n", 500_000, b"")?;
+    let open = repeated(alloc, FIRST, b"--bb\r\n", 100_000, b"")?;
     assert!(rt; count(alloc, b"a", &open) == None);
-    let near = repeated(alloc, FIRST, b"--bb\r\n", 500_000, b"\r\n--b--\r\n--a--")?;
-    assert!(rt; count(alloc, b"a", &near) == Some((1, 3_000_000)));
-    let feeds = repeated(alloc, FIRST, b"\n", 3_000_000, b"\r\n--b--\r\n--a--")?;
-    assert!(rt; count(alloc, b"a", &feeds) == Some((1, 3_000_000)));
-    let returns = repeated(alloc, FIRST, b"\r", 3_000_000, b"\r\n--b--\r\n--a--")?;
-    assert!(rt; count(alloc, b"a", &returns) == Some((1, 3_000_000)));
+    let near = repeated(alloc, FIRST, b"--bb\r\n", 100_000, b"\r\n--b--\r\n--a--")?;
+    assert!(rt; count(alloc, b"a", &near) == Some((1, 600_000)));
+    let feeds = repeated(alloc, FIRST, b"\n\n\n\n\n", 100_000, b"\r\n--b--\r\n--a--")?;
+    assert!(rt; count(alloc, b"a", &feeds) == Some((1, 500_000)));
+    let returns = repeated(alloc, FIRST, b"\r\r\r\r\r", 100_000, b"\r\n--b--\r\n--a--")?;
+    assert!(rt; count(alloc, b"a", &returns) == Some((1, 500_000)));
     Ok(())
+}
+
+/// So many dashes.
+fn dashes(alloc: Global, tens: usize) -> Result<Vec<u8>, Fail> {
+    let mut bytes = Vec::new(alloc);
+    for _ in 0..tens {
+        bytes.extend_from_slice(b"----------")?;
+    }
+    Ok(bytes)
 }
 
 #[test]
 fn long_boundaries_are_compared_soon(rt: HostRuntime) -> Result<(), Fail> {
     let alloc = rt.alloc();
-    let boundary = repeated(alloc, b"", b"-", 60_000, b"")?;
-    let dashes = repeated(alloc, b"", b"-", 4_000_000, b"")?;
-    assert!(rt; count(alloc, &boundary[50..], &dashes) == None);
-    let lines = repeated(alloc, b"", b"--------\r\n", 400_000, b"")?;
-    assert!(rt; count(alloc, &boundary[50..], &lines) == None);
+    let boundary = dashes(alloc, 6_000)?;
+    let long = dashes(alloc, 100_000)?;
+    assert!(rt; count(alloc, &boundary, &long) == None);
+    let lines = repeated(alloc, b"", b"--------\r\n", 100_000, b"")?;
+    assert!(rt; count(alloc, &boundary, &lines) == None);
     Ok(())
 }
