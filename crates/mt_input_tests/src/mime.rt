@@ -105,10 +105,22 @@ fn bodies_that_spell_no_change_set(rt: HostRuntime) -> Result<(), Fail> {
 fn outer_bodies(rt: HostRuntime) -> Result<(), Fail> {
     let alloc = rt.alloc();
     for (body, want) in [
-        ("--a\r\nContent-Type: multipart/mixed; boundary=\"b;c\"\r\n\r\n--b;c--\r\n--a--\r\n", true),
-        ("x\r\n--a\r\nContent-Type: multipart/mixed; boundary=b\r\n\r\n--b--\r\n--a--\r\n--a\r\n", true),
-        ("--a\r\nContent-Type: multipart/mixed\r\n\r\n--b--\r\n--a--", false),
-        ("--a\r\nContent-Type: multipart/other; boundary=b\r\n\r\n--b--\r\n--a--", false),
+        (
+            "--a\r\nContent-Type: multipart/mixed; boundary=\"b;c\"\r\n\r\n--b;c--\r\n--a--\r\n",
+            true,
+        ),
+        (
+            "x\r\n--a\r\nContent-Type: multipart/mixed; boundary=b\r\n\r\n--b--\r\n--a--\r\n--a\r\n",
+            true,
+        ),
+        (
+            "--a\r\nContent-Type: multipart/mixed\r\n\r\n--b--\r\n--a--",
+            false,
+        ),
+        (
+            "--a\r\nContent-Type: multipart/other; boundary=b\r\n\r\n--b--\r\n--a--",
+            false,
+        ),
         ("--a\r\n\r\n--b--\r\n--a--", false),
         ("--a--", false),
         ("--b--", false),

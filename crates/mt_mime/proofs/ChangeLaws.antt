@@ -2,7 +2,7 @@
 use Rattle.std.proofs.Common.{◌≡◌, ℕ, ◌+◌, ◌<◌, ◌≤◌, true, false, List, [], ◌∷◌, ◌++◌, length, take, drop, map, get_or, Some, None, Bor, refl, sym, ap, ◌∙◌, subst}
 use Rattle.std.specs.Prelude.{option_map, codes}
 use Rattle.std.specs.List.{AllZip}
-use Rattle.std.proofs.lemmas.List.{take_more, drop_more, take_all, take-append-drop, map-append}
+use Rattle.std.proofs.lemmas.List.{take_more, drop_more, take-append-drop, map-append}
 use Rattle.httparse.specs.Grammar.{LineEnd, Field, RequestHead, print_request}
 use Rattle.httparse.proofs.GrammarLemmas.{request_unique}
 use Rattle.mt_http_in.specs.declared.heads.Head.{Head}
@@ -10,7 +10,7 @@ use Rattle.mt_http_in.specs.declared.fields.Field.{Field as HeadField}
 use Rattle.mt_http_in.specs.Heads.{HoldsHead, fields_of}
 use Rattle.mt_mime.specs.declared.changes.Part.{Part}
 use Rattle.mt_mime.specs.declared.headers.Peeled.{Peeled}
-use Rattle.mt_mime.specs.Headers.{HasFields, HasNoFields, Peels, content_type, IsInnerHead, HasNoInnerHead}
+use Rattle.mt_mime.specs.Headers.{HasFields, Peels, content_type, IsInnerHead, HasNoInnerHead}
 use Rattle.mt_mime.specs.Parts.{Multipart, HasParts, HasNoParts, texts_of, Splits}
 use Rattle.mt_mime.specs.Changes.{Operation, is_of, SpellsOperation, part_of, ChangeSet, boundary_in, SpellsSet, Batch, SpellsBatch, HasNoBatch, parts_of, bytes_in, ReadsAll, SpellsNone}
 use Rattle.mt_mime.proofs.MarkLaws.{clash}
@@ -60,9 +60,6 @@ operation_made text p v part peels type head method target fields body =
       },
       part_is part o (method ∙ holds.method) (target ∙ holds.target) (fields ∙ holds.fields) body,
     )
-
-pub no_operation_fields : (text : List ℕ) → HasNoFields text → (o : Operation) → SpellsOperation text o → ⊥
-no_operation_fields text none o s = none o.about o.last s.rest s.about
 
 -- the same fields were taken off
 pub record Peeling (text : List ℕ) (p : Peeled) (fields : List Field) (rest : List ℕ) : Type 0 where
@@ -118,9 +115,6 @@ bytes_at texts at d inside =
     ∙ map-append (λ (x : Bor (List ℕ)). x.now) (take at texts) (drop at texts)
     ∙ ap (λ (x : List (Bor (List ℕ))). bytes_in (take at texts) ++ bytes_in x) (drop_more texts at d inside)
 
-pub all_none : (texts : List (List ℕ)) (parts : List Part) → texts ≡ [] → parts ≡ [] → ReadsAll texts parts
-all_none texts parts none e = record { operations = []; spelled = subst (λ (xs : List (List ℕ)). AllZip SpellsOperation xs []) (sym none) tt; parts_are = e }
-
 pub all_more : (texts : List (Bor (List ℕ))) (at : ℕ) (parts : List Part) (d : Bor (List ℕ)) (part : Part) → ReadsAll (bytes_in (take at texts)) parts → at < length texts
     → (o : Operation) × SpellsOperation (get_or texts at d).now o × (part ≡ part_of o) → ReadsAll (bytes_in (take (at + 1) texts)) (parts ++ part ∷ [])
 all_more texts at parts d part f inside found =
@@ -137,9 +131,6 @@ all_bad texts at d inside none os spelled =
     let found = all_at (bytes_in (take at texts)) (get_or texts at d).now (bytes_in (drop (at + 1) texts)) os (subst (λ (xs : List (List ℕ)). AllZip SpellsOperation xs os) (bytes_at texts at d inside) spelled) in
     none found.0 found.1
 
-pub all_read : (texts : List (Bor (List ℕ))) (at : ℕ) (parts : List Part) → ReadsAll (bytes_in (take at texts)) parts → length texts ≤ at → ReadsAll (bytes_in texts) parts
-all_read texts at parts f past = subst (λ (xs : List (Bor (List ℕ))). ReadsAll (bytes_in xs) parts) (take_all at texts past) f
-
 -- ---- the change set
 
 some_same : (a b : List ℕ) → Some a ≡ Some b → a ≡ b
@@ -155,9 +146,6 @@ same_inner text p boundary s peels is spelled =
     let same = peeling text p s.about s.last spelled.rest peels spelled.about in
     let b : spelled.boundary ≡ boundary = some_same spelled.boundary boundary (sym spelled.boundary_is ∙ ap boundary_in same.type_is ∙ is) in
     subst (λ (t : List ℕ). HasParts boundary t s.inner) same.rest_is (subst (λ (t : List ℕ). HasParts t spelled.rest s.inner) b spelled.parts)
-
-pub no_set_fields : (text : List ℕ) → HasNoFields text → (s : ChangeSet) → SpellsSet text s → ⊥
-no_set_fields text none s spelled = none s.about s.last spelled.rest spelled.about
 
 pub no_set_boundary : (text : List ℕ) (p : Peeled) → Peels text p → None ≡ boundary_in (option_map (λ (x : Bor (List ℕ)). x.now) p.content_type) → (s : ChangeSet) → SpellsSet text s → ⊥
 no_set_boundary text p peels none s spelled =
@@ -227,9 +215,6 @@ pub no_batch_set : (boundary body : List ℕ) (texts : List (Bor (List ℕ))) (t
 no_batch_set boundary body texts text split one none b spelled =
     let same : text.now ≡ spelled.text = head_same text.now spelled.text (sym (ap bytes_in one) ∙ texts_same boundary body texts b split spelled ∙ spelled.one) in
     none b.changes (subst (λ (x : List ℕ). SpellsSet x b.changes) (sym same) spelled.changes)
-
-pub no_batch_parts : (boundary body : List ℕ) → HasNoParts boundary body → HasNoBatch boundary body
-no_batch_parts boundary body none b spelled = none b.outer spelled.parts
 
 one_text : (texts : List (Bor (List ℕ))) (text : List ℕ) → bytes_in texts ≡ text ∷ [] → length texts ≡ 1
 one_text [] text e = absurd (cc)

@@ -10,12 +10,12 @@ use Rattle.httparse.specs.Grammar.{LineEnd, crlf, lf, Field, is_token_byte, IsTo
 use Rattle.httparse.specs.Spans.{header_bytes, name_and_value, AreFieldsAt, IsSectionAt}
 use Rattle.httparse.proofs.GrammarLemmas.{print_request-append, section_unique, request_unique}
 use Rattle.mt_http_in.specs.Fields.{first_value}
-use Rattle.mt_http_in.specs.Heads.{IsHead, HoldsHead, ParsedAs, field_at, NeverHasHead, IsHeadBegun}
+use Rattle.mt_http_in.specs.Heads.{IsHead, HoldsHead, ParsedAs, field_at}
 use Rattle.mt_http_in.specs.declared.heads.Head.{Head}
 use Rattle.mt_http_in.specs.declared.heads.Parsed.TheVariants.{Whole}
 use Rattle.mt_http_in.proofs.HeadLaws.{fields_at_are}
 use Rattle.mt_mime.specs.declared.headers.Peeled.{Peeled}
-use Rattle.mt_mime.specs.Headers.{is_paired, starts_plain, is_strict, AreFields, HasFields, HasFieldsAt, Peels, IsInnerHead, HasNoInnerHead}
+use Rattle.mt_mime.specs.Headers.{is_paired, starts_plain, is_strict, HasFields, HasFieldsAt, Peels, IsInnerHead, HasNoInnerHead}
 use Rattle.mt_mime.proofs.MarkLaws.{clash}
 
 unlike : (b : Bool) → (b ≡ true → ⊥) → not b ≡ true
@@ -84,14 +84,6 @@ inner_of h is strict =
 pub inner_strict : (h : RequestHead) → IsInnerHead h → is_strict (print_request h) ≡ true
 inner_strict h is = both_true (starts_plain (print_request h)) (is_paired 0 (print_request h)) (blank_plain h is.head.grammar is.blank) is.paired
 
--- where no head stands, whatever follows
-pub never_inner : (text : List ℕ) → NeverHasHead text → HasNoInnerHead text
-never_inner text never h rest is e = never [] h rest is.head (append-nil text ∙ e)
-
--- where a head has only begun
-pub begun_inner : (text : List ℕ) → IsHeadBegun text → HasNoInnerHead text
-begun_inner text begun h rest is e = begun.none h rest (is.head.grammar, e)
-
 -- the bytes of a head that was read
 whole_front : (text : List ℕ) (v : Head) (whole : ParsedAs text (Whole v)) → take v.size text ≡ print_request whole.0
 whole_front text v whole = ap (take v.size) whole.3 ∙ take_at (print_request whole.0) (drop v.size text) v.size (sym whole.2.size)
@@ -133,14 +125,6 @@ fields_found text room len count found short paired fits is =
       },
       at,
     )
-
--- fields at the front that are found are short, in lines that end in both bytes
-pub fields_fair : (text : List ℕ) (room : List HeaderSpan) (len count : ℕ) (fields : List Field) (last : LineEnd) → AreFields fields last → IsSectionAt text 0 room len count fields last
-    → (len ≤ 16384) × (is_paired 0 (take len text) ≡ true)
-fields_fair text room len count fields last are at = (
-  omega (arith, at.len_is, are.short),
-  subst (λ (t : List ℕ). is_paired 0 t ≡ true) (sym (section_front text room len count fields last at)) are.paired,
-)
 
 pub peels : (text : List ℕ) (room : List HeaderSpan) (len count : ℕ) (p : Peeled) → HasFieldsAt text room len count → p.rest.now ≡ drop len text
     → option_map (λ (v : Bor (List ℕ)). v.now) p.content_type ≡ first_value (codes "content-type") (map (field_at text) (take count room)) → Peels text p

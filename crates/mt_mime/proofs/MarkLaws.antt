@@ -1,8 +1,8 @@
 -- Lines that stand between parts, and those that do not.
-use Rattle.std.proofs.Common.{◌≡◌, ◌≢◌, ℕ, ◌+◌, ◌-◌, ◌≤◌, Bool, true, false, List, [], ◌∷◌, ◌++◌, length, take, Option, Some, None, Bor, refl, sym, ap, ◌∙◌, arith, append_assoc, append-nil, length-append, subst, codes}
+use Rattle.std.proofs.Common.{◌≡◌, ◌≢◌, ℕ, ◌+◌, ◌-◌, Bool, true, false, List, [], ◌∷◌, ◌++◌, length, take, Option, Some, None, Bor, refl, sym, ap, ◌∙◌, arith, append_assoc, append-nil, length-append, subst, codes}
 use Rattle.std.specs.List.{list_all}
 use Rattle.std.proofs.lemmas.List.{append_cancel_left, take_at}
-use Rattle.std.proofs.lemmas.List.Elements.{All-nil, All-push}
+use Rattle.std.proofs.lemmas.List.Elements.{All-push}
 use Rattle.httparse.specs.Grammar.{is_ows}
 use Rattle.mt_mime.specs.declared.lines.Line.{Line}
 use Rattle.mt_mime.specs.Lines.{line_end, print_line, print_lines, Follows, IsPeeled, left}
@@ -49,9 +49,6 @@ print_push ls l rest =
     ap (λ (x : List ℕ). x ++ rest) (print_join ls (l ∷ []) ∙ ap (λ (x : List ℕ). print_lines ls ++ x) (append-nil (print_line l)))
     ∙ append_assoc (print_lines ls) (print_line l) rest
 
-pub passed_none : (b bytes : List ℕ) → Passed b bytes bytes
-passed_none b bytes = record { lines = []; each = All-nil (IsPlain b); whole = refl }
-
 pub passed_more : (b bytes rest : List ℕ) (l : Line) (more : Bor (List ℕ)) → Passed b bytes rest → IsPeeled rest l → IsOther b l.text.now → l.rest ≡ Some more → Passed b bytes more.now
 passed_more b bytes rest l more p line other is =
     let f : Follows rest l.text.now (Some more) = subst (λ (o : Option (Bor (List ℕ))). Follows rest l.text.now o) is line.whole in
@@ -90,9 +87,3 @@ mark_found b bytes rest l lines closing p line ends is =
       ends = ends;
       whole = left_after b bytes rest l p line;
     }
-
--- a slice of no more bytes
-pub passed_within : (b bytes rest : List ℕ) → Passed b bytes rest → length rest ≤ length bytes
-passed_within b bytes rest p =
-    let size : length bytes ≡ length (print_lines p.lines) + length rest = ap (λ (x : List ℕ). length x) p.whole ∙ length-append (print_lines p.lines) rest in
-    omega (arith, size)

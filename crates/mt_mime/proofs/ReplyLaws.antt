@@ -1,6 +1,6 @@
 -- The replies of forms, how long they are, and that they are those to their operations.
 use Rattle.std.proofs.Common.{◌≡◌, ℕ, zero, suc, ◌+◌, ◌^◌, ◌<◌, ◌≤◌, Bool, true, false, List, [], ◌∷◌, ◌++◌, length, drop, take, get_or, refl, sym, ap, ◌∙◌, subst, append-nil, append_assoc, length-append, arith, lit<}
-use Rattle.std.specs.Prelude.{codes, decimal, vec_len, vec_capacity}
+use Rattle.std.specs.Prelude.{codes, decimal, vec_len}
 use Rattle.std.specs.List.{AllZip, flat_map}
 use Rattle.std.specs.Global.{Vec}
 use Rattle.std.proofs.lemmas.Fmt.{length-decimal-le}
@@ -266,16 +266,6 @@ answers_all false close ops echoes forms all one tags count = answers_one close 
 
 no_bytes : (room : Vec ℕ) → room.items ≡ [] → vec_len room ≡ 0
 no_bytes room e = room.ok.0 ∙ ap (λ (x : List ℕ). length x) e
-
-pub whole_room : (room : Vec ℕ) (text : List ℕ) → room.items ≡ [] → length text ≤ vec_capacity room → HasRoom room text
-whole_room room text empty wide = omega (arith, wide, no_bytes room empty)
-
--- the body, and the head behind it
-pub body_room : (room : Vec ℕ) (head body : List ℕ) → HasRoom room (head ++ body) → HasRoom room body
-body_room room head body wide = omega (arith, wide, length-append head body)
-
-pub head_room : (room after : Vec ℕ) (head body : List ℕ) → HasRoom room (head ++ body) → Appends room body after → HasRoom after head
-head_room room after head body wide wrote = omega (arith, wide, length-append head body, wrote.len, wrote.capacity)
 
 pub size_is : (room after : Vec ℕ) (body : List ℕ) (size : ℕ) → room.items ≡ [] → Appends room body after → size ≡ vec_len after → size ≡ length body
 size_is room after body size empty wrote is = omega (arith, is, wrote.len, no_bytes room empty)

@@ -3,6 +3,7 @@ use Rattle.std.specs.Prelude.{◌≡◌, ◌≢◌, ℕ, ◌<◌, drop, List, []
 use Rattle.std.specs.Borrow.{Bor}
 use Rattle.mt_mime.specs.declared.lines.Line.{Line}
 
+-- what ends a line
 abbrev pub line_end : List ℕ
 line_end = codes "\r\n"
 

@@ -6,12 +6,15 @@ use Rattle.std.specs.Option.{option_or}
 use Rattle.httparse.specs.Grammar.{trim_ows}
 use Rattle.mt_http_in.specs.Fields.{is_same, onto}
 
+-- a semicolon
 abbrev pub is_semicolon : ℕ → Bool
 is_semicolon c = c == 59
 
+-- a quote
 abbrev pub is_quote : ℕ → Bool
 is_quote c = c == 34
 
+-- an equals sign
 abbrev pub is_equals : ℕ → Bool
 is_equals c = c == 61
 

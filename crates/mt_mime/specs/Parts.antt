@@ -30,13 +30,16 @@ pub record IsMultipart (boundary : List ℕ) (m : Multipart) : Type 0 where
   pub line : IsLine m.close
   pub close : IsClosing boundary m.close
 
+-- the lines of a part, its delimiter first
 abbrev pub print_part : BodyPart → List ℕ
 print_part p = print_line p.mark ++ print_lines p.lines
 
+-- the lines of all parts
 abbrev pub print_parts : List BodyPart → List ℕ
 print_parts [] = []
 print_parts (p ∷ ps) = print_part p ++ print_parts ps
 
+-- the bytes of a body
 abbrev pub print_multipart : Multipart → List ℕ
 print_multipart m = print_lines m.preamble ++ (print_parts m.parts ++ (print_line m.close ++ m.epilogue))
 

@@ -20,6 +20,7 @@ use Rattle.mt_mime.specs.declared.forms.Form.TheVariants as form
 
 -- ---- fields
 
+-- a field of that name and value
 abbrev pub field : List ℕ → List ℕ → ReplyField
 field name value = record { name = name; value = value }
 
@@ -135,6 +136,7 @@ text_by form.NoContent tag = []
 text_by form.Tagged tag = []
 text_by form.Gone tag = []
 
+-- its reply with this tag
 abbrev pub reply_by : Form → Tag → Bool → Reply
 reply_by f tag close = reply_with (status_by f) (fields_by f tag) (text_by f tag) close
 
