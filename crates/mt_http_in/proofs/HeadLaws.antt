@@ -83,7 +83,7 @@ names_at bytes (s ∷ spans) (f ∷ fields) e all =
     let is : IsField f = All-head IsField f fields all in
     All-cons (HasNameAt bytes) s spans (subst IsUtf8 (sym name) (token_text f.name is.name)) (names_at bytes spans fields others (All-tail IsField f fields all))
 
-fields_at_are : (bytes : List ℕ) (spans : List HeaderSpan) (fields : List FieldLine) → map (header_bytes bytes) spans ≡ map name_and_value fields → map (field_at bytes) spans ≡ map field_of fields
+pub fields_at_are : (bytes : List ℕ) (spans : List HeaderSpan) (fields : List FieldLine) → map (header_bytes bytes) spans ≡ map name_and_value fields → map (field_at bytes) spans ≡ map field_of fields
 fields_at_are bytes [] [] e = refl
 fields_at_are bytes [] (f ∷ fields) e = let none : ⊥ = cc in absurd none
 fields_at_are bytes (s ∷ spans) [] e = let none : ⊥ = cc in absurd none

@@ -2,7 +2,7 @@ mod BodyLaws
 mod ByteLaws
 mod ChunkLaws
 pub mod FillLaws
-mod HeadLaws
+pub mod HeadLaws
 mod PieceLaws
 mod RequestLaws
 mod TrailerLaws

@@ -175,7 +175,8 @@ fn before_blanks(bytes: &[u8]) -> &[u8]
     }
 }
 
-fn trimmed(bytes: &[u8]) -> &[u8]
+/// The bytes without the blanks and tabs at both ends.
+pub fn trimmed(bytes: &[u8]) -> &[u8]
     ensures { result.now ≡ trim_ows bytes.now }
 {
     before_blanks(after_blanks(bytes))

@@ -101,7 +101,7 @@ fn head_at(
 }
 
 /// Reads the head that the bytes begin with. The one error is want of memory.
-fn parse_head(alloc: Global, bytes: &[u8]) -> Result<Parsed, NoMemory>
+pub fn parse_head(alloc: Global, bytes: &[u8]) -> Result<Parsed, NoMemory>
     ensures { IfOk result (ParsedAs bytes.now) }
 {
     let mut spans = [EMPTY_HEADER_SPAN; MAX_FIELDS];

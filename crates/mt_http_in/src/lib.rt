@@ -11,6 +11,8 @@ mod requests;
 mod trailers;
 
 pub use fields::{Field, Fields, first_value, says};
+pub use framing::trimmed;
+pub use heads::{Head, Parsed, parse_head};
 pub use reader::Reader;
 pub use requests::{Incoming, read_request};
 

@@ -12,7 +12,7 @@ use Rattle.std.proofs.lemmas.List.Sums.{AllPass-from_list_all}
 use Rattle.std.proofs.lemmas.Map.Made.{is_member-Decides}
 use Rattle.http.specs.StatusCode.{IsStatusCode}
 use Rattle.mt_http_out.specs.declared.reply.Reply.{Reply}
-use Rattle.mt_http_out.specs.Rendering.{statuses, IsReply, phrase_of, status_line, line_of, field_lines, length_line, close_line, bytes_of}
+use Rattle.mt_http_out.specs.Rendering.{statuses, IsReply, phrase_of, status_line, line_of, field_lines, length_line, close_line, bytes_closing}
 
 -- ---- statuses
 
@@ -49,8 +49,8 @@ close_len : (close : Bool) → length (close_line close) ≤ 19
 close_len true = omega arith
 close_len false = omega arith
 
-pub reply_fits : (r : Reply) (fields : ℕ) → IsReply r → fields ≡ length (field_lines r.fields) → fields + length r.body < 2 ^ 64 → length (bytes_of r) ≤ fields + length r.body + 128
-reply_fits r fields is same small =
+pub reply_fits : (r : Reply) (fields : ℕ) → IsReply r → fields ≡ length (field_lines r.fields) → fields + length r.body < 2 ^ 64 → (close : Bool) → length (bytes_closing close r) ≤ fields + length r.body + 128
+reply_fits r fields is same small close =
     let code = is_code r.status is.status in
     let digits = length-decimal-le 3 r.status (lit< tt) (omega (arith, code.1)) (omega (arith, code.1)) in
     let phrase = phrase_short r.status is.status in
@@ -58,13 +58,13 @@ reply_fits r fields is same small =
     let line = line_len (codes "Content-Length") (decimal (length r.body)) in
     let shown = none_or (r.status == 204) (line_of (codes "Content-Length") (decimal (length r.body))) in
     let first = status_len (decimal r.status) (phrase_of r.status) in
-    let all = reply_len (status_line r.status) (field_lines r.fields) (length_line r.status (length r.body)) (close_line r.close) r.body in
-    omega (arith, same, digits, phrase, size, line, shown, first, all, close_len r.close)
+    let all = reply_len (status_line r.status) (field_lines r.fields) (length_line r.status (length r.body)) (close_line close) r.body in
+    omega (arith, same, digits, phrase, size, line, shown, first, all, close_len close)
 
 -- ---- options
 
-pub sum_fits : (o : Option ℕ) (P : Type 0) (sum least : ℕ) → SomeIff o P sum → least ≤ sum → IfSome o (λ n. least ≤ n)
-sum_fits (Some n) P sum least is fits = omega (arith, is.1, fits)
+pub sum_fits : (o : Option ℕ) (P : Type 0) (sum : ℕ) (least : Bool → ℕ) → SomeIff o P sum → ((close : Bool) → least close ≤ sum) → IfSome o (λ n. (close : Bool) → least close ≤ n)
+sum_fits (Some n) P sum least is fits = λ close. omega (arith, is.1, fits close)
 sum_fits None P sum least is fits = tt
 
 pub map_or : {A B : Type 0} (f : A → B) (o : Option A) (d : A) → f (unwrap_or o d) ≡ unwrap_or (option_map f o) (f d)

@@ -68,5 +68,13 @@ head_bytes status fields size close = status_line status ++ field_lines fields +
 abbrev pub reply_bytes : ℕ → List ReplyField → List ℕ → Bool → List ℕ
 reply_bytes status fields body close = head_bytes status fields (length body) close ++ body
 
+-- the bytes of a reply, behind which the connection goes on or ends, whatever its own field says
+abbrev pub bytes_closing : Bool → Reply → List ℕ
+bytes_closing close r = reply_bytes r.status r.fields r.body close
+
 abbrev pub bytes_of : Reply → List ℕ
-bytes_of r = reply_bytes r.status r.fields r.body r.close
+bytes_of r = bytes_closing r.close r
+
+-- the bytes of a reply that stands in a multipart body, which has no Connection
+abbrev pub inner_bytes : Reply → List ℕ
+inner_bytes r = bytes_closing false r

@@ -6,5 +6,5 @@ mod reply;
 #[cfg(test)]
 mod tests;
 
-pub use rendering::{put, put_close, put_length, put_line, put_status, render};
+pub use rendering::{put, put_close, put_length, put_line, put_status, render, render_inner};
 pub use reply::{Reply, ReplyField, ReplyFields};

@@ -1,8 +1,8 @@
 //! The bytes of a reply, written once into room that was taken before.
-ghost use Rattle.std.specs.Prelude.{◌≡◌, ◌≤◌, ◌++◌, length, decimal, IfSome, OnOk, OnErr};
+ghost use Rattle.std.specs.Prelude.{◌≡◌, ◌≤◌, ◌++◌, Bool, length, decimal, IfSome, OnOk, OnErr};
 ghost use Rattle.http.specs.StatusCode.{IsStatusCode};
 ghost use Rattle.mt_json.specs.Draft.{HasRoom, Appends};
-ghost use Rattle.mt_http_out.specs.Rendering.{IsReply, phrase_of, status_line, line_of, field_lines, length_line, close_line, head_bytes, bytes_of};
+ghost use Rattle.mt_http_out.specs.Rendering.{IsReply, phrase_of, status_line, line_of, field_lines, length_line, close_line, head_bytes, bytes_closing, bytes_of, inner_bytes};
 
 use crate::reply::{Reply, ReplyField};
 use http::StatusCode;
@@ -106,14 +106,15 @@ fn put_head(room: &mut Vec<u8>, status: u16, fields: &[ReplyField], size: usize,
     put(room, b"\r\n");
 }
 
-fn put_reply(room: &mut Vec<u8>, reply: &Reply)
+/// Writes the reply, with this in place of its `close`.
+fn put_reply(room: &mut Vec<u8>, reply: &Reply, close: bool)
     requires code { IsStatusCode reply.now.status }
-    requires room { HasRoom room.old (bytes_of reply.now) }
-    ensures { Appends room.old (bytes_of reply.now) room.new }
+    requires room { HasRoom room.old (bytes_closing close reply.now) }
+    ensures { Appends room.old (bytes_closing close reply.now) room.new }
 {
     let body = reply.body.as_slice();
     let fields = reply.fields.as_slice();
-    put_head(room, reply.status, fields, body.len(), reply.close);
+    put_head(room, reply.status, fields, body.len(), close);
     put(room, body);
 }
 
@@ -135,15 +136,30 @@ fn fields_size(fields: &[ReplyField]) -> Option<usize>
     }
 }
 
-/// Room for the reply, where its size is one that memory is counted in.
+/// Room for the reply, whether the connection ends or not, where its size is one that memory is counted
+/// in.
 fn room_for(reply: &Reply) -> Option<usize>
     requires { IsReply reply.now }
-    ensures { IfSome result (λ n. length (bytes_of reply.now) ≤ n) }
+    ensures { IfSome result (λ n. (close : Bool) → length (bytes_closing close reply.now) ≤ n) }
 {
     let fields = fields_size(reply.fields.as_slice())?;
     fields
         .checked_add(reply.body.as_slice().len())?
         .checked_add(FRAME_BYTES)
+}
+
+/// Adds the reply, with this in place of its `close`.
+fn add(reply: &Reply, close: bool, into: &mut Vec<u8>) -> Result<(), NoMemory>
+    requires { IsReply reply.now }
+    ensures ok { OnOk result (into.new.items ≡ into.old.items ++ bytes_closing close reply.now) }
+    ensures err { OnErr result (into.new.items ≡ into.old.items) }
+{
+    let Some(size) = room_for(reply) else {
+        return Err(NoMemory);
+    };
+    into.reserve(size)?;
+    put_reply(into, reply, close);
+    Ok(())
 }
 
 /// Adds the bytes of a reply behind what stands there: the status line with the reason phrase of the
@@ -155,10 +171,14 @@ pub fn render(reply: &Reply, into: &mut Vec<u8>) -> Result<(), NoMemory>
     ensures ok { OnOk result (into.new.items ≡ into.old.items ++ bytes_of reply.now) }
     ensures err { OnErr result (into.new.items ≡ into.old.items) }
 {
-    let Some(size) = room_for(reply) else {
-        return Err(NoMemory);
-    };
-    into.reserve(size)?;
-    put_reply(into, reply);
-    Ok(())
+    add(reply, reply.close, into)
+}
+
+/// The same without Connection, as a reply stands in a multipart body; its `close` is not looked at.
+pub fn render_inner(reply: &Reply, into: &mut Vec<u8>) -> Result<(), NoMemory>
+    requires { IsReply reply.now }
+    ensures ok { OnOk result (into.new.items ≡ into.old.items ++ inner_bytes reply.now) }
+    ensures err { OnErr result (into.new.items ≡ into.old.items) }
+{
+    add(reply, false, into)
 }

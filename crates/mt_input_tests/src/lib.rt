@@ -1,5 +1,5 @@
 //! Tests of what comes in and goes out: the values of rows, dates, bodies in JSON, filters and what they
-//! match, and requests in HTTP/1.1.
+//! match, requests in HTTP/1.1, and change sets in and out.
 #![tactic(auto)]
 
 #[cfg(test)]
@@ -10,6 +10,8 @@ mod http;
 mod json;
 #[cfg(test)]
 mod matching;
+#[cfg(test)]
+mod mime;
 #[cfg(test)]
 mod model;
 #[cfg(test)]

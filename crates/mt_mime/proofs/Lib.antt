@@ -1,0 +1,8 @@
+mod LineLaws
+mod MarkLaws
+mod PartLaws
+mod MediaLaws
+mod HeaderLaws
+mod ChangeLaws
+mod ReplyLaws
+pub mod Theorems

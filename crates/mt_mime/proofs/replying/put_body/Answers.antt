@@ -1,0 +1,5 @@
+use Rattle.mt_json.proofs.RoomLaws.{appends_then}
+use Rattle.mt_mime.proofs.replying.put_body.Goals as goal
+
+pub returns : goal.returns
+returns c = appends_then (appends_then c.put.ensures c.put_parts.ensures) c.put-2.ensures

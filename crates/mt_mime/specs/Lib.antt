@@ -1,0 +1,9 @@
+pub mod Lines
+pub mod Marks
+pub mod Parts
+pub mod Headers
+pub mod MediaTypes
+pub mod Changes
+pub mod Replies
+pub mod Rooms
+pub mod Drafts
