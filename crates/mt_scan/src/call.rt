@@ -190,6 +190,18 @@ impl PageCall {
         self.filter.as_ref()
     }
 
+    /// Whether the page ends here: without room, at 256 units, or at the end of the bounds. No call is
+    /// asked then.
+    pub fn is_over(&self) -> bool
+        ensures { result ≡ is_over self.now }
+    {
+        let at_end = match &self.place {
+            None => false,
+            Some(place) => is_end(place),
+        };
+        at_end || self.room == 0 || self.units >= UNITS
+    }
+
     /// The rows so far, and where the next page begins: at the start of the bounds as long as no unit
     /// is done. It takes no memory.
     pub fn into_page(self) -> Page
