@@ -2,11 +2,11 @@
 ghost use Rattle.std.specs.Prelude.{◌≡◌, IfOk};
 ghost use Rattle.mt_migrate.specs.Moves.{GoesOn};
 
-use mt_test_stores::{Past, insert, one, reply_to, rows_text, store_of, tag_text};
 use mt_chain::StoreReply;
 use mt_mem::MemKeeper;
 use mt_meta::Phase;
 use mt_migrate::{Migrator, MoveProgress};
+use mt_test_stores::{Past, insert, one, reply_to, rows_text, store_of, tag_text};
 use std::alloc::Global;
 use std::test::Fail;
 
