@@ -6,7 +6,7 @@ use crate::migrations::{Stores, run, stores_of};
 use mt_chain::Keeper;
 use mt_clean::{CleanProgress, Cleaner};
 use mt_meta::{Mark, NewPhase, Phase};
-use mt_test_stores::{FILLING, Past, TURNED, reply_to, rows_text, store_of};
+use mt_test_stores::{FILLING, Past, reply_to, rows_text, store_of};
 use std::alloc::Global;
 use std::test::Fail;
 
@@ -139,7 +139,12 @@ fn tells_what_is_not_migrated(rt: HostRuntime) -> Result<(), Fail> {
 }
 
 /// Old's row `r` in a partition that has turned to new, in a sealed store.
-const TURNED_SEALED: [Past; 4] = [TURNED[0], TURNED[1], TURNED[2], Past::Sealed];
+const TURNED_SEALED: [Past; 4] = [
+    Past::Old(Phase::UseOld),
+    Past::Row("r", 40),
+    Past::Turned(1),
+    Past::Sealed,
+];
 
 #[test]
 fn leaves_a_tombstone_while_new_fills(rt: HostRuntime) -> Result<(), Fail> {
