@@ -1,19 +1,17 @@
 -- Tombstones of new and rows of old go, of a partition that is in new alone: the pair stays sound, and clients see the same.
 use Rattle.std.proofs.Common.{◌≡◌, ◌≢◌, ◌⊎◌, ℕ, ◌≤◌, Bool, true, false, cond, ◌||◌, List, [], ◌∷◌, Option, Some, None, refl, sym, ap, ◌∙◌, subst, arith, inl, inr, bytes_eq}
 use Rattle.std.proofs.lemmas.Bool.{and_parts, or_cases}
-use Rattle.std.specs.List.{AllByRecursion, list_any}
+use Rattle.std.specs.List.{AllByRecursion}
 use Rattle.mt_model.specs.declared.tag.Tag.{Tag}
-use Rattle.mt_model.specs.declared.value.Prop.{Prop}
 use Rattle.mt_chain.specs.declared.ask.Side.TheVariants.{New}
 use Rattle.mt_chain.specs.declared.row.Stored.{Stored}
 use Rattle.mt_chain.specs.declared.row.StoredRow.{StoredRow}
-use Rattle.mt_chain.specs.declared.row.Put.{Put}
 use Rattle.mt_chain.specs.declared.row.Put.TheVariants.{Check, Delete}
 use Rattle.mt_chain.specs.declared.query.RkFrom.TheVariants.{Start}
-use Rattle.mt_chain.specs.Rows.{row_at, row_in, shown}
+use Rattle.mt_chain.specs.Rows.{row_in, shown}
 use Rattle.mt_chain.specs.Puts.{unmet_from}
 use Rattle.mt_chain.specs.StoreCall.{Contents}
-use Rattle.mt_chain.proofs.KeyLaws.{text_true, text_false, text_same}
+use Rattle.mt_chain.proofs.KeyLaws.{text_true, text_same}
 use Rattle.mt_chain.proofs.PutLaws.{all_puts, Each, Held, each_held}
 use Rattle.mt_chain.proofs.JudgeLaws.{contents_after}
 use Rattle.mt_meta.specs.declared.mark.Mark.{Mark}
@@ -203,8 +201,11 @@ module _ (own : List Fact) (p : Pair) (pk : List ℕ) (marker : Tag) (rows : Lis
   thin_row : (rk : List ℕ) → old_at thinned_pair pk rk ≡ cond (is_in rk (keys_of rows)) None (old_at p pk rk)
   thin_row rk = all_puts p.old_number p.old.counter pk (deletes_of rows) p.old.rows rk ∙ after_deletes p.old_number p.old.counter rows rk (old_at p pk rk)
 
+  pub thin_marker : old_at thinned_pair pk marker_key ≡ old_at p pk marker_key
+  thin_marker = thin_row marker_key ∙ ap (λ b. cond b None (old_at p pk marker_key)) (marker_out rows fits.each)
+
   thin_mode : mode thinned_pair pk ≡ mode p pk
-  thin_mode = ap (λ x. mode_of (old_state x) (new_state_at p pk) p.old.sealed) (thin_row marker_key ∙ ap (λ b. cond b None (old_at p pk marker_key)) (marker_out rows fits.each))
+  thin_mode = ap (λ x. mode_of (old_state x) (new_state_at p pk) p.old.sealed) thin_marker
 
   thin_low : 5 ≤ rank (mode p pk)
   thin_low = rank_from (λ o n. is_use_new n) 5 use_new_rank p pk s moved
@@ -249,7 +250,7 @@ module _ (own : List Fact) (p : Pair) (pk : List ℕ) (marker : Tag) (rows : Lis
   drop_row : (rk : List ℕ) → old_at dropped_pair pk rk ≡ cond (is_in rk (keys_of rows)) None (cond (bytes_eq marker_key rk) None (old_at p pk rk))
   drop_row rk = all_puts p.old_number p.old.counter pk (Delete marker_key marker ∷ deletes_of rows) p.old.rows rk ∙ after_deletes p.old_number p.old.counter rows rk (cond (bytes_eq marker_key rk) None (old_at p pk rk))
 
-  all_gone : (rk : List ℕ) → old_at dropped_pair pk rk ≡ None
+  pub all_gone : (rk : List ℕ) → old_at dropped_pair pk rk ≡ None
   all_gone rk = drop_row rk ∙ go (is_in rk (keys_of rows)) (bytes_eq marker_key rk) refl refl where
     by_row : (x : Option Stored) → old_at p pk rk ≡ x → is_in rk (keys_of rows) ≡ false → bytes_eq marker_key rk ≡ false → old_at p pk rk ≡ None
     by_row None is out other = is

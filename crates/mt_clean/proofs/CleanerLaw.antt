@@ -1,11 +1,11 @@
 -- A step of a cleaner, over two told stores that are a sound pair.
-use Rattle.std.proofs.Common.{◌≡◌, ◌≢◌, ◌⊎◌, ℕ, Bool, true, false, cond, not, ◌&&◌, nat_lt, List, [], ◌∷◌, take, filter, length, Option, Some, None, refl, sym, ap, subst, ◌∙◌, arith, inl, inr, bytes_eq, Less, Equal, Greater, Ordering}
+use Rattle.std.proofs.Common.{◌≡◌, ◌≢◌, ◌⊎◌, ℕ, Bool, true, false, cond, not, ◌&&◌, nat_lt, List, [], ◌∷◌, take, length, Option, Some, None, refl, sym, ap, subst, ◌∙◌, arith, inl, inr, Less, Equal, Greater, Ordering}
 use Rattle.std.specs.Prelude.{option_map, Ok}
 use Rattle.std.specs.List.{AllByRecursion}
 use Rattle.std.specs.Ordering.{nat_cmp, is_le, is_lt, ordering_reverse}
 use Rattle.std.specs.Cmp.Lexicographic.{slice_cmp, nat_list_cmp_total}
 use Rattle.mt_model.specs.declared.tag.Tag.{Tag}
-use Rattle.mt_chain.specs.declared.ask.Side.TheVariants.{Old, New}
+use Rattle.mt_chain.specs.declared.ask.Side.TheVariants.{New}
 use Rattle.mt_chain.specs.declared.ask.StoreAsk.{StoreAsk}
 use Rattle.mt_chain.specs.declared.ask.StoreReply.{StoreReply}
 use Rattle.mt_chain.specs.declared.ask.StoreReply.TheVariants as reply
@@ -26,16 +26,14 @@ use Rattle.mt_meta.specs.declared.marker.Phase.{Phase}
 use Rattle.mt_meta.specs.declared.marker.Phase.TheVariants.{UseOld, PreferOld, PreferNew}
 use Rattle.mt_meta.specs.declared.marker.NewPhase.{NewPhase}
 use Rattle.mt_meta.specs.declared.marker.NewPhase.TheVariants.{Filling, UseNew}
-use Rattle.mt_meta.specs.declared.mark.Mark.TheVariants.{Tomb}
 use Rattle.mt_meta.specs.Markers.{marker_key, old_phase_of, new_phase_of}
 use Rattle.mt_meta.specs.Marks.{mark_of}
 use Rattle.mt_meta.specs.Logical.{Pair, NewState, old_says, new_says, old_state, new_state, old_at, new_at, old_state_at, new_state_at, logical}
 use Rattle.mt_meta.specs.Sound.{NoTomb, IsSound}
 use Rattle.mt_meta.specs.declared.fact.Keys.TheVariants as keys
 use Rattle.mt_meta.specs.declared.fact.Fact.{Fact}
-use Rattle.mt_meta.specs.declared.fact.Fact.TheVariants as fact
-use Rattle.mt_meta.specs.Facts.{is_in, is_there, is_use_new, KnowsRow, KnowsClean, Holds, ApartFrom, AllPlain}
-use Rattle.mt_meta.specs.Steps.{AllHold, row_facts, with_old, with_new, IsEmptied, PairMeans}
+use Rattle.mt_meta.specs.Facts.{is_in, is_there, is_use_new, KnowsRow, KnowsClean, Holds, AllPlain}
+use Rattle.mt_meta.specs.Steps.{AllHold, row_facts, with_old, with_new, PairMeans}
 use Rattle.mt_meta.proofs.Growth.{grows_self, no_rows}
 use Rattle.mt_meta.proofs.Parts.{by_part}
 use Rattle.mt_meta.proofs.Actors.{plain_apart, plain_rows}
@@ -44,7 +42,7 @@ use Rattle.mt_meta.proofs.ReadLaws.{row_known, marker_read}
 use Rattle.mt_clean.specs.declared.state.State.{State}
 use Rattle.mt_clean.specs.declared.state.State.TheVariants as at
 use Rattle.mt_clean.specs.declared.cleaner.CleanProgress.{CleanProgress}
-use Rattle.mt_clean.specs.Cleanings.{is_data, is_tomb, is_tombstone, data_rows, tombs_of, past, next_rows, deletes_of, marker_put, Asks, walked, purged, purge_or_on, by_new_phase, read_new, read_old, dropped, after_next, lead, state_of, Absorbs, ArePurged, AreDropped, CleanerFits}
+use Rattle.mt_clean.specs.Cleanings.{is_tomb, is_tombstone, data_rows, tombs_of, past, next_rows, deletes_of, marker_put, Asks, walked, purged, purge_or_on, by_new_phase, read_new, read_old, dropped, lead, state_of, Absorbs, ArePurged, AreDropped, CleanerFits}
 use Rattle.mt_clean.specs.Known.{sealed_fact, found_facts, keys_of, clean_but, done_facts, clean_fact, rest_of, state_facts}
 use Rattle.mt_clean.specs.CleanerSteps.{ShowsSame, retired_at, CleanerStep}
 use Rattle.mt_clean.proofs.RowLists.{data_in, tomb_listed}

@@ -1,5 +1,5 @@
 -- What a cleaner keeps whatever the stores reply.
-use Rattle.std.proofs.Common.{◌≡◌, ℕ, ◌≤◌, Bool, true, false, cond, List, [], ◌∷◌, length, Option, Some, None, refl, sym, ap, ◌∙◌, subst}
+use Rattle.std.proofs.Common.{◌≡◌, ℕ, ◌≤◌, Bool, true, false, List, [], ◌∷◌, length, Option, Some, None, refl, subst}
 use Rattle.mt_chain.specs.declared.row.StoredRow.{StoredRow}
 use Rattle.mt_chain.specs.declared.query.Found.{Found}
 use Rattle.mt_chain.specs.declared.query.Next.{Next}
@@ -15,7 +15,7 @@ use Rattle.mt_clean.specs.declared.state.State.{State}
 use Rattle.mt_clean.specs.declared.state.State.TheVariants as at
 use Rattle.mt_clean.specs.declared.steps.Lead.{Lead}
 use Rattle.mt_clean.specs.declared.steps.Lead.TheVariants as to
-use Rattle.mt_clean.specs.Cleanings.{tombs_of, Asks, walked, purged, purge_or_on, by_new_phase, read_new, read_old, dropped, after_next, after_read, after_write, after_unmet, lead, state_of, said_of, progress_at, CleanerFits, is_done, says_done, GoesOn}
+use Rattle.mt_clean.specs.Cleanings.{tombs_of, Asks, walked, purged, purge_or_on, by_new_phase, read_new, read_old, dropped, after_next, after_read, after_write, after_unmet, lead, state_of, said_of, progress_at, CleanerFits, is_done, says_done}
 use Rattle.mt_clean.proofs.RowLists.{are_dropped, are_purged}
 
 walked_fits : (sealed : Bool) (pk : Option (List ℕ)) → CleanerFits (state_of (walked sealed pk))

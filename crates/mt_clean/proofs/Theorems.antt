@@ -1,5 +1,5 @@
 -- The laws of a cleaner, in the words of its definitions.
-use Rattle.std.proofs.Common.{◌≡◌, ℕ, Bool, true, false, List, None, sym, ap, ◌∙◌}
+use Rattle.std.proofs.Common.{◌≡◌, ℕ, ◌+◌, ◌*◌, ◌≤◌, Bool, true, false, List, length, None, sym, ap, subst, ◌∙◌}
 use Rattle.std.specs.Prelude.{Ok}
 use Rattle.mt_chain.specs.declared.ask.StoreAsk.{StoreAsk}
 use Rattle.mt_chain.specs.declared.ask.StoreReply.{StoreReply}
@@ -15,6 +15,8 @@ use Rattle.mt_clean.specs.declared.cleaner.CleanProgress.TheVariants as progress
 use Rattle.mt_clean.specs.Cleanings.{Asks, Absorbs, CleanerFits, says_done}
 use Rattle.mt_clean.specs.Known.{state_facts}
 use Rattle.mt_clean.specs.CleanerSteps.{CleanerStep}
+use Rattle.mt_clean.specs.StepsLeft.{steps_left, Stands}
+use Rattle.mt_clean.proofs.AloneLaw.{nears_end, begins_within}
 use Rattle.mt_clean.proofs.CleanerLaw.{cleaner_law}
 use Rattle.mt_clean.proofs.ToldLaws.{not_sealed_is_so, not_migrated_is_so, none_unmigrated, done_is_so, emptied_is_told}
 
@@ -42,3 +44,14 @@ not_sealed_was_seen state to a r p q asks means absorbs = not_sealed_is_so state
 pub moved_is_migrated : (state to : State) (a : StoreAsk) (r : StoreReply) (pk : List ℕ) (p q : Pair) (retired : Bool) → AllHold p retired (state_facts state) → Asks state a → PairMeans a r p q → KnowsSwept p None
     → Absorbs state r (Ok (progress.NotMigrated pk)) to → ⊥
 moved_is_migrated state to a r pk p q retired know asks means swept absorbs = none_unmigrated p pk swept (not_migrated_is_so state r a p q retired pk know asks means (sym absorbs.1))
+
+-- a cleaner that acts alone comes nearer to its end with each step after which it goes on
+pub steps_alone_near_the_end : (state to : State) (a : StoreAsk) (r : StoreReply) (p q : Pair) (retired : Bool) → CleanerFits state → IsSound p → IsContents p.old → IsContents p.new → AllHold p retired (state_facts state) → Stands p state
+    → Asks state a → PairMeans a r p q → Absorbs state r (Ok progress.More) to → Stands q to × (steps_left to q + 1 ≤ steps_left state p)
+steps_alone_near_the_end state to a r p q retired fits s old new know stands asks means absorbs =
+    let h = nears_end state r a p q retired fits s old.rising new.rising know stands asks means (sym absorbs.1) in
+    subst (λ x. Stands q x × (steps_left x q + 1 ≤ steps_left state p)) (sym absorbs.0) (h.stands, h.less)
+
+-- so it stops within five steps for each row of the two stores, and five
+pub few_steps_from_the_beginning : (p : Pair) → steps_left at.Walk p ≤ 5 * (length p.old.rows + length p.new.rows) + 4
+few_steps_from_the_beginning = begins_within

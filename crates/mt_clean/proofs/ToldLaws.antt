@@ -4,11 +4,10 @@ use Rattle.std.specs.Prelude.{option_map, is_some}
 use Rattle.mt_chain.specs.declared.ask.StoreAsk.{StoreAsk}
 use Rattle.mt_chain.specs.declared.ask.StoreReply.{StoreReply}
 use Rattle.mt_chain.specs.declared.ask.StoreReply.TheVariants as reply
-use Rattle.mt_chain.specs.declared.query.Next.{Next}
 use Rattle.mt_chain.specs.declared.query.PkFrom.TheVariants as start
 use Rattle.mt_chain.specs.declared.row.Stored.{Stored}
 use Rattle.mt_chain.specs.declared.row.StoredRow.{StoredRow}
-use Rattle.mt_chain.specs.Rows.{row_in, read_end, shown, has_partition}
+use Rattle.mt_chain.specs.Rows.{row_in, read_end, shown}
 use Rattle.mt_chain.specs.StoreCall.{IsNext}
 use Rattle.mt_chain.proofs.RowLaws.{no_partition, row_of_partition}
 use Rattle.mt_meta.specs.declared.marker.NewPhase.{NewPhase}
@@ -20,10 +19,8 @@ use Rattle.mt_meta.specs.Steps.{AllHold, IsEmptied, PairMeans}
 use Rattle.mt_meta.proofs.ReadLaws.{marker_read}
 use Rattle.mt_clean.specs.declared.state.State.{State}
 use Rattle.mt_clean.specs.declared.state.State.TheVariants as at
-use Rattle.mt_clean.specs.declared.steps.Lead.{Lead}
-use Rattle.mt_clean.specs.declared.cleaner.CleanProgress.{CleanProgress}
 use Rattle.mt_clean.specs.declared.cleaner.CleanProgress.TheVariants as progress
-use Rattle.mt_clean.specs.Cleanings.{Asks, walked, purged, purge_or_on, by_new_phase, read_new, read_old, dropped, tombs_of, after_next, after_read, after_write, after_unmet, lead, said_of, progress_at, says_done}
+use Rattle.mt_clean.specs.Cleanings.{Asks, walked, purged, purge_or_on, by_new_phase, read_new, read_old, dropped, tombs_of, after_write, after_unmet, lead, said_of, progress_at, says_done}
 use Rattle.mt_clean.specs.Known.{state_facts}
 use Rattle.mt_clean.proofs.CleanerLaw.{from_start}
 

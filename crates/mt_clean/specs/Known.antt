@@ -4,7 +4,6 @@ use Rattle.mt_chain.specs.declared.ask.Side.TheVariants.{New}
 use Rattle.mt_chain.specs.declared.row.StoredRow.{StoredRow}
 use Rattle.mt_chain.specs.declared.query.RkFrom.TheVariants.{Start}
 use Rattle.mt_chain.specs.declared.query.PkFrom.TheVariants.{From}
-use Rattle.mt_meta.specs.declared.fact.Keys.{Keys}
 use Rattle.mt_meta.specs.declared.fact.Keys.TheVariants as keys
 use Rattle.mt_meta.specs.declared.fact.Fact.{Fact}
 use Rattle.mt_meta.specs.declared.fact.Fact.TheVariants as fact

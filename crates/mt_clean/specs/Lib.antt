@@ -1,3 +1,4 @@
 pub mod Cleanings
 pub mod Known
 pub mod CleanerSteps
+pub mod StepsLeft

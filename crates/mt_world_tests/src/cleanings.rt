@@ -21,12 +21,7 @@ fn step(alloc: Global, cleaner: &mut Cleaner, stores: &mut Stores) -> Result<Cle
 }
 
 /// So many steps of a cleaner that goes on at each.
-fn steps(
-    alloc: Global,
-    cleaner: &mut Cleaner,
-    stores: &mut Stores,
-    count: u32,
-) -> Result<(), Fail>
+fn steps(alloc: Global, cleaner: &mut Cleaner, stores: &mut Stores, count: u32) -> Result<(), Fail>
     requires { GoesOn cleaner.old }
     ensures { IfOk result (λ u. GoesOn cleaner.new) }
 {

@@ -1,6 +1,5 @@
 use Rattle.std.proofs.Common.{rules}
 use Rattle.std.proofs.lemmas.Fn.{filter_same}
-use Rattle.mt_clean.specs.Cleanings.{is_data}
 use Rattle.mt_clean.proofs.rows.keep_data.Goals as goal
 
 pub returns : goal.returns

@@ -1,8 +1,7 @@
 use Rattle.std.proofs.Common.{sym, subst, ap, ◌∙◌}
 use Rattle.mt_clean.specs.Cleanings.{CleanerFits, lead, state_of}
 use Rattle.mt_clean.specs.declared.state.State.{State}
-use Rattle.mt_clean.specs.declared.steps.Lead.{Lead}
-use Rattle.mt_clean.proofs.FitLaws.{lead_fits, done_said}
+use Rattle.mt_clean.proofs.FitLaws.{lead_fits}
 use Rattle.mt_clean.proofs.cleaner.Cleaner.absorb.Goals as goal
 
 pub invariant_of-self : goal.invariant_of-self
