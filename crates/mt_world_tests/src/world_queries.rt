@@ -80,7 +80,8 @@ fn answers_what_both_stores_show_while_new_fills(rt: HostRuntime) -> Result<(), 
         asks: [ALL, Ask::Op(Do::Delete(Cond::Any)), ALL],
     };
     let got = played(alloc, deleted)?;
-    let want = "[r 0.2;] calls 2 rows 1; 0.2 calls 5 rows 0; [] calls 7 rows 0; query 0.0 batch 0.1 query 0.2 ";
+    let want =
+        "[r 0.2;] calls 2 rows 1; 0.2 calls 5 rows 0; [] calls 7 rows 0; query 0.0 batch 0.1 query 0.2 ";
     assert!(rt; got.as_str() == want, "{got}");
     Ok(())
 }
@@ -93,14 +94,11 @@ fn filters_what_clients_see_of_a_replaced_row(rt: HostRuntime) -> Result<(), Fai
         new: &[FILLING, Past::Kept("r", Mark::Copy(SEEN), 40)],
         failing: 0,
         entries: 10,
-        asks: [
-            Ask::Op(Do::SetAge(20)),
-            Ask::Query("p", "Age gt 30"),
-            ALL,
-        ],
+        asks: [Ask::Op(Do::SetAge(20)), Ask::Query("p", "Age gt 30"), ALL],
     };
     let got = played(alloc, replaced)?;
-    let want = "1.3 calls 3 rows 1; [] calls 5 rows 1; [r 1.3;] calls 7 rows 1; batch 0.0 filtered 0.1 query 0.2 ";
+    let want =
+        "1.3 calls 3 rows 1; [] calls 5 rows 1; [r 1.3;] calls 7 rows 1; batch 0.0 filtered 0.1 query 0.2 ";
     assert!(rt; got.as_str() == want, "{got}");
     Ok(())
 }
@@ -120,7 +118,8 @@ fn leaves_an_entry_without_rows_too(rt: HostRuntime) -> Result<(), Fail> {
         ],
     };
     let got = played(alloc, fresh)?;
-    let want = "[] calls 1 rows 0; 0.2 calls 3 rows 1; [] calls 4 rows 1; query 0.0 batch 0.1 filtered 0.2 ";
+    let want =
+        "[] calls 1 rows 0; 0.2 calls 3 rows 1; [] calls 4 rows 1; query 0.0 batch 0.1 filtered 0.2 ";
     assert!(rt; got.as_str() == want, "{got}");
     Ok(())
 }
@@ -137,7 +136,8 @@ fn breaks_off_at_a_fault_and_at_a_full_history(rt: HostRuntime) -> Result<(), Fa
         asks: [ALL, ALL, Ask::Op(Do::Insert)],
     };
     let got = played(alloc, failing)?;
-    let want = "StoreFault calls 1 rows 0; [] calls 2 rows 0; 0.2 calls 4 rows 1; fault 0.0 query 0.1 batch 0.2 ";
+    let want =
+        "StoreFault calls 1 rows 0; [] calls 2 rows 0; 0.2 calls 4 rows 1; fault 0.0 query 0.1 batch 0.2 ";
     assert!(rt; got.as_str() == want, "{got}");
     let full = Scene {
         failing: 0,
@@ -146,7 +146,8 @@ fn breaks_off_at_a_fault_and_at_a_full_history(rt: HostRuntime) -> Result<(), Fa
         ..failing
     };
     let got = played(alloc, full)?;
-    let want = "0.2 calls 2 rows 1; HistoryFull calls 2 rows 1; HistoryFull calls 2 rows 1; batch 0.0 ";
+    let want =
+        "0.2 calls 2 rows 1; HistoryFull calls 2 rows 1; HistoryFull calls 2 rows 1; batch 0.0 ";
     assert!(rt; got.as_str() == want, "{got}");
     Ok(())
 }

@@ -106,4 +106,3 @@ pub fn asked(
     let (calls, rows) = (world.calls(), world.rows(alloc)?);
     Ok(format!(in alloc; "{text}calls {calls} rows {rows}; ")?)
 }
-
