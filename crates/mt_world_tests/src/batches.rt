@@ -29,15 +29,22 @@ pub enum Do {
 /// An operation on the row of that key.
 pub type Sample<'a> = (&'a str, Do);
 
-/// A visible property, `B` but for `SetAge`.
+/// One property that clients see.
+fn visible(alloc: Global, name: &str, value: i32) -> Result<Props, Fail>
+    ensures { IfOk result (λ ps. list_any (λ p. is_hidden p.name) ps ≡ false) }
+{
+    let props = one(alloc, name, value)?;
+    Ok(props.visible(alloc)?)
+}
+
+/// What the operation brings: the property `B`, but for `SetAge`.
 fn brought(alloc: Global, kind: Do) -> Result<Props, Fail>
     ensures { IfOk result (λ ps. list_any (λ p. is_hidden p.name) ps ≡ false) }
 {
-    let props = match kind {
-        Do::SetAge(age) => one(alloc, "Age", age)?,
-        _ => one(alloc, "B", 1)?,
-    };
-    Ok(props.visible(alloc)?)
+    match kind {
+        Do::SetAge(age) => visible(alloc, "Age", age),
+        _ => visible(alloc, "B", 1),
+    }
 }
 
 fn key(alloc: Global, pk: &str, rk: &str) -> Result<Key, Fail>
