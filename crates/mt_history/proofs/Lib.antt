@@ -1,3 +1,4 @@
+mod BlockLaws
 mod CaseLaws
 pub mod CountLaws
 pub mod ListingLaws

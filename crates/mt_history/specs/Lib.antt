@@ -4,3 +4,4 @@ pub mod Window
 pub mod Replies
 pub mod Legal
 pub mod Cases
+pub mod Stacks

@@ -3,22 +3,22 @@ ghost use Rattle.std.specs.Prelude.{◌≡◌, ◌≤◌, ◌-◌, ◌++◌, ◌
 ghost use Rattle.mt_history.specs.Weight.{weight};
 ghost use Rattle.mt_history.specs.Kept.{IsKept, has_room, entry_at};
 
+use crate::blocks::Blocks;
 use crate::entry::Entry;
 use mt_model::NoMemory;
 use std::alloc::Global;
 use std::marker::Model;
 
-/// Entries in order, at most as many as its limit says, whose weights are at most 2^30 together.
+/// Entries in order, at most as many as its limit says, whose weights are at most 2^30 together. They
+/// stand in blocks, so that adding one moves none of the others.
 #[derive(Drop)]
 pub struct History {
-    entries: Vec<Entry>,
+    entries: Blocks,
     limit: u64,
     weight: u64,
 }
 
 impl Model for History {
-    ghost use Rattle.std.specs.Prelude.{◌-◌};
-    ghost use Rattle.std.specs.Vec.{vec_len, vec_capacity};
     ghost use Rattle.std.specs.Coded.{codes};
     ghost use Rattle.mt_filter.specs.contracts.filter.Filter as filter;
     ghost use Rattle.mt_history.specs.Kept.{Kept};
@@ -30,10 +30,10 @@ impl Model for History {
     ghost use Rattle.std.specs.Prelude.{◌≡◌, ◌≤◌, ◌^◌, length};
     ghost use Rattle.mt_history.specs.Weight.{total_weight};
 
-    ghost view = { λ h. record { first = 0; entries = h.entries.items; limit = h.limit; spare = vec_capacity h.entries - vec_len h.entries } };
+    ghost view = { λ h. record { first = 0; entries = h.entries.entries; limit = h.limit; spare = h.entries.spare } };
 
-    ghost invariant = { λ h. (h.weight ≡ total_weight h.entries.items) × (h.weight ≤ 2 ^ 30)
-        × (length h.entries.items ≤ h.limit) × (1 ≤ h.limit) × (h.limit ≤ 1048576) };
+    ghost invariant = { λ h. (h.weight ≡ total_weight h.entries.entries) × (h.weight ≤ 2 ^ 30)
+        × (length h.entries.entries ≤ h.limit) × (1 ≤ h.limit) × (h.limit ≤ 1048576) };
 }
 
 /// The weights of all entries of a history, at most.
@@ -49,7 +49,7 @@ impl History {
         ensures limit { result.limit ≡ entries }
     {
         History {
-            entries: Vec::new(alloc),
+            entries: Blocks::new(alloc),
             limit: entries,
             weight: 0,
         }
@@ -64,26 +64,27 @@ impl History {
             && self.weight + weight <= MAX_WEIGHT
     }
 
-    /// Takes the memory for one more entry, if there is none in hand. The one error is want of memory,
-    /// and then nothing changes.
+    /// Takes the memory for one more entry, if there is none in hand: that of one block of 1,024
+    /// entries, and of its place in a list of blocks. The one error is want of memory, and then nothing
+    /// changes.
     pub fn reserve(&mut self) -> Result<(), NoMemory>
         ensures same { self.new ≡ record self.old { spare = self.new.spare } }
         ensures ok { OnOk result (1 ≤ self.new.spare) }
         ensures more { self.old.spare ≤ self.new.spare }
         ensures err { OnErr result (self.new ≡ self.old) }
     {
-        self.entries.reserve(1)?;
-        Ok(())
+        self.entries.reserve()
     }
 
-    /// Adds the entry behind the others, in the memory that is in hand. It cannot be refused.
+    /// Adds the entry behind the others, in the memory that is in hand. It cannot be refused, and moves
+    /// no other entry.
     pub fn push(&mut self, entry: Entry)
         requires spare { 1 ≤ self.old.spare }
         requires room { IsTrue (has_room self.old (weight entry.what)) }
         ensures { self.new ≡ record self.old { entries = self.old.entries ++ entry ∷ []; spare = self.old.spare - 1 } }
     {
         self.weight += entry.what.weight();
-        self.entries.push_reserved(entry);
+        self.entries.push(entry);
     }
 
     /// How many entries are kept.

@@ -1,6 +1,7 @@
 //! The history of a table: its entries in order, within limits, and what each is answered.
 #![tactic(auto)]
 
+mod blocks;
 mod entry;
 mod history;
 pub mod model;

@@ -234,6 +234,31 @@ fn keeps_entries_in_order(rt: HostRuntime) -> Result<(), Fail> {
 }
 
 #[test]
+fn keeps_entries_behind_full_blocks(rt: HostRuntime) -> Result<(), Fail> {
+    let mut history = History::new(rt.alloc(), 4096);
+    for number in 0..2049 {
+        let entry = Entry {
+            caller: 3,
+            number,
+            what: What::Fault,
+        };
+        assert!(rt; add(&mut history, entry)?);
+    }
+    assert!(rt; history.len() == 2049);
+    for (at, number) in [
+        (0, Some(0)),
+        (1023, Some(1023)),
+        (1024, Some(1024)),
+        (2048, Some(2048)),
+        (2049, None),
+        (u64::MAX, None),
+    ] {
+        assert!(rt; history.get(at).map(|entry| entry.number) == number);
+    }
+    Ok(())
+}
+
+#[test]
 fn keeps_its_limits(rt: HostRuntime) -> Result<(), Fail> {
     let mut history = History::new(rt.alloc(), 2);
     assert!(rt; history.room_for(1_073_741_824));
