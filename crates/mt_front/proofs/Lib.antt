@@ -7,7 +7,6 @@ pub mod FitLaws
 mod OwnLaws
 mod RefusalLaws
 mod ReplyLaws
-mod RouteLaws
 mod SpellLaws
 mod TalkLaws
 mod TurnLaws
