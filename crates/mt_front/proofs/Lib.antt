@@ -3,6 +3,7 @@ mod BodyKeyLaws
 mod CallLaws
 mod CameLaws
 pub mod CauseLaws
+mod FieldLaws
 pub mod FitLaws
 mod OwnLaws
 mod RefusalLaws
