@@ -1,5 +1,5 @@
 -- What is asked for, and that it can be tried.
-use Rattle.std.proofs.Common.{◌≡◌, ℕ, ◌≤◌, false, List, Option, Some, None, Result, Ok, Err, IfOk, refl, sym, ap₂, subst, inr}
+use Rattle.std.proofs.Common.{◌≡◌, ℕ, ◌≤◌, false, List, Option, Some, None, Result, Ok, Err, IfOk, refl, sym, ap₂, subst}
 use Rattle.std.specs.Prelude.{MatchOption, IsOkUnless}
 use Rattle.std.specs.List.{list_any}
 use Rattle.mt_model.specs.declared.value.Prop.{Prop}
@@ -16,7 +16,7 @@ use Rattle.mt_chain.specs.Rows.{key_at}
 use Rattle.mt_front.specs.declared.methods.Action.{Action}
 use Rattle.mt_front.specs.declared.fields.IfMatch.{IfMatch}
 use Rattle.mt_front.specs.declared.asks.Asked.{Asked}
-use Rattle.mt_front.specs.declared.asks.Asked.TheVariants.{Write, Refused}
+use Rattle.mt_front.specs.declared.asks.Asked.TheVariants.{Write}
 use Rattle.mt_front.specs.declared.asks.Echo.TheVariants.{Plain}
 use Rattle.mt_front.specs.declared.refusals.BadRequest.{BadRequest}
 use Rattle.mt_front.specs.Asks.{KeyedBy, MatchedBy, AsksAction, AsksEntity, CanTry, match_refusal, condition_of, put_op, merge_op}

@@ -121,16 +121,16 @@ AsksEntity action pk rk m bytes asked =
 
 -- ---- routes
 
--- what a request of that route asks for, whose If-Match says this, and whose insert would be shown so
-abbrev pub AsksOn : Route → IfMatch → Echo → List ℕ → Asked → Type 0
-AsksOn route.Insert m shown bytes asked = AsksInsert shown bytes asked
-AsksOn (route.Entity action pk rk) m shown bytes asked = AsksEntity action pk rk m bytes asked
+-- what a request of that route asks for
+abbrev pub AsksOn : Route → List Field → List ℕ → Asked → Type 0
+AsksOn route.Insert fields bytes asked = AsksInsert (insert_echo fields) bytes asked
+AsksOn (route.Entity action pk rk) fields bytes asked = (m : IfMatch) × IsMatch fields m × AsksEntity action pk rk m bytes asked
 
 -- the route's refusal refuses, or what the route asks for is asked; what is not refused has a route
-abbrev pub AsksBy : Option BadRequest → Option Route → IfMatch → Echo → List ℕ → Asked → Type 0
-AsksBy (Some r) at m shown bytes asked = asked ≡ Refused r
-AsksBy None (Some at) m shown bytes asked = AsksOn at m shown bytes asked
-AsksBy None None m shown bytes asked = ⊥
+abbrev pub AsksBy : Option BadRequest → Option Route → List Field → List ℕ → Asked → Type 0
+AsksBy (Some r) at fields bytes asked = asked ≡ Refused r
+AsksBy None (Some at) fields bytes asked = AsksOn at fields bytes asked
+AsksBy None None fields bytes asked = ⊥
 
 -- ---- whole requests
 
@@ -153,11 +153,9 @@ request_of v = record { method = v.method; target = v.target; fields = v.fields;
 pub record AsksSpelled (table : List ℕ) (q : Request) (asked : Asked) : Type 0 where
   pub method : Option Method
   pub spelled : Spelled
-  pub if_match : IfMatch
   pub is_method : IsMethod q.method method
   pub is_spelled : SpellsIt q.target spelled
-  pub is_match : IsMatch q.fields if_match
-  pub asks : AsksBy (route_refusal table spelled method) (route_by spelled.target method) if_match (insert_echo q.fields) q.body asked
+  pub asks : AsksBy (route_refusal table spelled method) (route_by spelled.target method) q.fields q.body asked
 
 -- the target spells nothing
 abbrev pub SpellsNothing : List ℕ → Type 0

@@ -1,5 +1,5 @@
 -- Why requests are refused, and the replies that say so, with an error object of OData's JSON format.
-use Rattle.std.specs.Prelude.{◌≡◌, ℕ, ◌==◌, nat_eq, Bool, true, not, ◌&&◌, List, [], ◌∷◌, ◌++◌, codes, Option, Some, None, option_map, Result, Ok, Err}
+use Rattle.std.specs.Prelude.{◌≡◌, ℕ, ◌==◌, nat_eq, Bool, true, not, ◌&&◌, List, ◌∷◌, ◌++◌, codes, Option, Some, None, option_map, Result, Ok, Err}
 use Rattle.std.specs.Option.{option_to_list}
 use Rattle.std.specs.Set.{is_member}
 use Rattle.mt_model.specs.declared.text.NoMemory.{NoMemory as NoRoom}

@@ -11,7 +11,6 @@ use Rattle.mt_target.specs.declared.target.Spelled.{Spelled}
 use Rattle.mt_target.specs.Options.{has_option, has_repeat}
 use Rattle.mt_front.specs.declared.methods.Method.{Method}
 use Rattle.mt_front.specs.declared.methods.Method.TheVariants.{Post}
-use Rattle.mt_front.specs.declared.methods.Action.{Action}
 use Rattle.mt_front.specs.declared.routes.Route.{Route}
 use Rattle.mt_front.specs.declared.routes.Route.TheVariants as route
 use Rattle.mt_front.specs.declared.refusals.BadRequest.{BadRequest}

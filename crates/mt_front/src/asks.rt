@@ -8,8 +8,6 @@ ghost use Rattle.mt_chain.specs.declared.op.Op.TheVariants as op;
 ghost use Rattle.mt_model.specs.declared.key.Key.{Key};
 ghost use Rattle.mt_model.specs.declared.value.Prop.{Prop};
 ghost use Rattle.mt_front.specs.declared.asks.Asked.TheVariants as asked;
-ghost use Rattle.mt_front.specs.declared.fields.IfMatch.{IfMatch};
-ghost use Rattle.mt_front.specs.Fields.{IsMatch, insert_echo};
 ghost use Rattle.mt_front.specs.Routes.{route_refusal, route_by};
 ghost use Rattle.mt_front.specs.Replies.{HasEcho};
 ghost use Rattle.mt_front.specs.Asks.{BodyHasKeys, IsRefused, KeyedBy, InsertBy, AsksInsert, AsksAction, AsksEntity, AsksWith, AsksOn, AsksBy, RequestAsks, request_of, CanTry, match_refusal, condition_of, put_op, merge_op};
@@ -227,13 +225,13 @@ fn entity_by(
 
 /// What a request of that route asks for.
 fn asked_on(alloc: Global, at: Route, fields: &[Field], bytes: &[u8]) -> Result<Asked, NoMemory>
-    ensures asks { IfOk result (λ a. (m : IfMatch) × IsMatch fields.now m × AsksOn at m (insert_echo fields.now) bytes.now a) }
+    ensures asks { IfOk result (AsksOn at fields.now bytes.now) }
     ensures may { IfOk result CanTry }
 {
-    let if_match = read_match(fields);
     match at {
         Route::Insert => insert_by(alloc, insert_echo(fields), bytes),
         Route::Entity { action, pk, rk } => {
+            let if_match = read_match(fields);
             entity_by(alloc, action, if_match, pk.as_str(), rk.as_str(), bytes)
         }
     }
@@ -248,7 +246,7 @@ fn asked_at(
     fields: &[Field],
     bytes: &[u8],
 ) -> Result<Asked, NoMemory>
-    ensures asks { IfOk result (λ a. (m : IfMatch) × IsMatch fields.now m × AsksBy (route_refusal table.now spelled method) (route_by spelled.target method) m (insert_echo fields.now) bytes.now a) }
+    ensures asks { IfOk result (AsksBy (route_refusal table.now spelled method) (route_by spelled.target method) fields.now bytes.now) }
     ensures may { IfOk result CanTry }
 {
     if let Some(refusal) = route_refusal(alloc, table, &spelled, method)? {

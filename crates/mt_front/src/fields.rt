@@ -1,5 +1,5 @@
 //! The fields that an operation on a row reads: If-Match, Prefer and Accept. Of each the first counts.
-ghost use Rattle.std.specs.Prelude.{◌≡◌, ℕ, List, option_map};
+ghost use Rattle.std.specs.Prelude.{◌≡◌, List, option_map};
 ghost use Rattle.mt_chain.specs.declared.op.Op.TheVariants as op;
 ghost use Rattle.mt_model.specs.declared.key.Key.{Key};
 ghost use Rattle.mt_model.specs.declared.value.Prop.{Prop};

@@ -1,5 +1,5 @@
 //! The route of a request, from its target and its method, and the refusals that come before it.
-ghost use Rattle.std.specs.Prelude.{◌≡◌, ℕ, List, IfOk};
+ghost use Rattle.std.specs.Prelude.{◌≡◌, IfOk};
 ghost use Rattle.mt_front.specs.Routes.{is_system, has_system, is_list_of_tables, is_built, is_unsupported, names_another, route_refusal, route_by};
 
 use crate::methods::{Action, Method, action_of, resource_of};
