@@ -7,7 +7,7 @@
 #   of the bytes.
 # - a body of 4 MiB in chunks of 1 KiB to the same body by its length.
 #
-# The requests are of no route, so no row is written, and each is answered 501. Give a program that is built as the
+# What the requests ask for is not built, so no row is written, and each is answered 501. Give a program that is built as the
 # argument, else ./mtable builds and runs its own. It takes less than a minute.
 set -eu
 top=$(cd "$(dirname "$0")/.." && pwd)

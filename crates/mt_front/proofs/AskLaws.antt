@@ -1,5 +1,5 @@
 -- What is asked for, and that it can be tried.
-use Rattle.std.proofs.Common.{◌≡◌, ℕ, ◌≤◌, false, List, Option, Some, None, Result, Ok, Err, IfOk, refl, sym, ap₂, subst, inr}
+use Rattle.std.proofs.Common.{◌≡◌, ℕ, ◌≤◌, false, List, Option, Some, None, Result, Ok, Err, IfOk, refl, sym, ap₂, subst}
 use Rattle.std.specs.Prelude.{MatchOption, IsOkUnless}
 use Rattle.std.specs.List.{list_any}
 use Rattle.mt_model.specs.declared.value.Prop.{Prop}
@@ -13,17 +13,13 @@ use Rattle.mt_model.specs.Props.{visible_size}
 use Rattle.mt_chain.specs.declared.op.Cond.{Cond}
 use Rattle.mt_chain.specs.declared.op.Op.{Op}
 use Rattle.mt_chain.specs.Rows.{key_at}
-use Rattle.mt_front.specs.declared.routes.Action.{Action}
-use Rattle.mt_front.specs.declared.routes.IfMatch.{IfMatch}
-use Rattle.mt_front.specs.declared.routes.Route.{Route}
-use Rattle.mt_front.specs.declared.routes.Route.TheVariants as route
-use Rattle.mt_front.specs.Routes.{IsRoute}
+use Rattle.mt_front.specs.declared.methods.Action.{Action}
+use Rattle.mt_front.specs.declared.fields.IfMatch.{IfMatch}
 use Rattle.mt_front.specs.declared.asks.Asked.{Asked}
-use Rattle.mt_front.specs.declared.asks.Asked.TheVariants.{Write, Refused}
+use Rattle.mt_front.specs.declared.asks.Asked.TheVariants.{Write}
 use Rattle.mt_front.specs.declared.asks.Echo.TheVariants.{Plain}
 use Rattle.mt_front.specs.declared.refusals.BadRequest.{BadRequest}
-use Rattle.mt_front.specs.declared.refusals.BadRequest.TheVariants.{NotImplemented}
-use Rattle.mt_front.specs.Asks.{KeyedBy, MatchedBy, AsksAction, AsksOn, Request, RequestAsks, CanTry, match_refusal, condition_of, put_op, merge_op}
+use Rattle.mt_front.specs.Asks.{KeyedBy, MatchedBy, AsksAction, AsksEntity, CanTry, match_refusal, condition_of, put_op, merge_op}
 
 -- ---- what may be tried
 
@@ -62,14 +58,10 @@ no_fault (Some f) key h = absurd (cc)
 
 pub entity_asks : (action : Action) (m : IfMatch) (pk rk bytes : List ℕ) (key : Key) (r : Result Asked NoMemory) → match_refusal action m ≡ None
     → MatchOption (key_fault pk rk) (IsOkUnless {T = Key} (Ok key) of_key.NoMemory) (λ f. ◌≡◌ {A = Result Key KeyFault} (Ok key) (Err f)) → key.pk ≡ pk → key.rk ≡ rk
-    → IfOk r (AsksAction action (condition_of m) key bytes) → IfOk r (AsksOn (route.Entity action pk rk) m false bytes)
+    → IfOk r (AsksAction action (condition_of m) key bytes) → IfOk r (AsksEntity action pk rk m bytes)
 entity_asks action m pk rk bytes key (Ok asked) readable answers pk_is rk_is h =
     let same : key ≡ key_at pk rk = ap₂ key_at pk_is rk_is in
     let then = AsksAction action (condition_of m) (key_at pk rk) bytes asked in
     matched (match_refusal action m) (KeyedBy (key_fault pk rk) then asked) asked readable
     (keyed (key_fault pk rk) then asked (no_fault (key_fault pk rk) key answers) (subst (λ k. AsksAction action (condition_of m) k bytes asked) same h))
 entity_asks action m pk rk bytes key (Err e) readable answers pk_is rk_is h = tt
-
-pub not_routed : (table : List ℕ) (q : Request) (method target : List ℕ) → ((at : Route) → IsRoute table method target at → ⊥) → method ≡ q.method → target ≡ q.target → RequestAsks table q (Refused NotImplemented)
-not_routed table q method target none m t =
-    inr (subst (λ k. (at : Route) → IsRoute table k q.target at → ⊥) m (subst (λ k. (at : Route) → IsRoute table method k at → ⊥) t none), refl)

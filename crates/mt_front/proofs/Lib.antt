@@ -3,11 +3,11 @@ mod BodyKeyLaws
 mod CallLaws
 mod CameLaws
 pub mod CauseLaws
+mod FieldLaws
 pub mod FitLaws
 mod OwnLaws
 mod RefusalLaws
 mod ReplyLaws
-mod RouteLaws
 mod SpellLaws
 mod TalkLaws
 mod TurnLaws

@@ -1,14 +1,15 @@
 -- The replies to refusals are replies of this server.
-use Rattle.std.proofs.Common.{◌≡◌, ℕ, ◌==◌, Bool, true, false, List, [], ◌∷◌, ◌++◌, Ok, refl, sym, ap, ◌∙◌, subst, append_assoc, if◌then◌else◌}
+use Rattle.std.proofs.Common.{◌≡◌, ℕ, ◌==◌, Bool, true, false, List, ◌∷◌, ◌++◌, map, Option, Some, None, Ok, refl, sym, ap, ◌∙◌, subst, append_assoc, if◌then◌else◌}
 use Rattle.std.specs.Prelude.{not, ◌&&◌, nat_eq, codes}
 use Rattle.std.specs.Set.{is_member}
 use Rattle.std.proofs.lemmas.Bool.Decides.{Decides-eqb}
 use Rattle.mt_http_out.specs.declared.reply.Reply.{Reply}
 use Rattle.mt_http_out.specs.declared.reply.ReplyField.{ReplyField}
 use Rattle.mt_http_out.specs.Rendering.{statuses, further_names, are_some_of, IsReply}
+use Rattle.mt_front.specs.declared.methods.Resource.{Resource}
 use Rattle.mt_front.specs.declared.refusals.BadRequest.{BadRequest}
-use Rattle.mt_front.specs.declared.refusals.BadRequest.TheVariants.{InvalidHead, InvalidFraming, RequestBodyTooLarge, InvalidBody, CompressedBody, NotImplemented, MissingIfMatch, BadETag, KeyTooLong, KeyCharacter, InvalidJson, MissingKey, Double, BadName, BadType, TooManyProperties, PropertyTooLarge, EntityTooLarge}
-use Rattle.mt_front.specs.Refusals.{is_error_status, bad_status, json_type, error_object, error_reply, Makes}
+use Rattle.mt_front.specs.declared.refusals.BadRequest.TheVariants.{InvalidHead, InvalidFraming, RequestBodyTooLarge, InvalidBody, CompressedBody, InvalidUri, NotImplemented, TableNotFound, MethodNotAllowed, InvalidQuery, MissingIfMatch, BadETag, KeyTooLong, KeyCharacter, InvalidJson, MissingKey, Double, BadName, BadType, TooManyProperties, PropertyTooLarge, EntityTooLarge}
+use Rattle.mt_front.specs.Refusals.{is_error_status, bad_status, error_fields, error_object, error_with, Makes}
 
 both : (a b : Bool) → (a && b) ≡ true → (a ≡ true) × (b ≡ true)
 both true true e = (refl, refl)
@@ -23,13 +24,18 @@ off false e = refl
 differ : (a : Bool) → a ≡ true → a ≡ false → ⊥
 differ a t f = cc
 
-pub error_is : (status : ℕ) (code sentence : List ℕ) (close : Bool) → is_error_status status ≡ true → IsReply (error_reply status code sentence close)
-error_is status code sentence close e =
+-- the names of the fields, with Allow and without
+some_names : (resource : Option Resource) → are_some_of (codes "Content-Type" ∷ further_names) (map (λ f. f.name) (error_fields resource)) ≡ true
+some_names None = refl
+some_names (Some resource) = refl
+
+pub error_is : (resource : Option Resource) (status : ℕ) (code sentence : List ℕ) (close : Bool) → is_error_status status ≡ true → IsReply (error_with resource status code sentence close)
+error_is resource status code sentence close e =
     let b = both (is_member nat_eq statuses status) (not (status == 204)) e in
     let other = off (status == 204) b.1 in
     record {
       status = b.0;
-      fields = ap (λ t. are_some_of (if t then further_names else codes "Content-Type" ∷ further_names) (codes "Content-Type" ∷ [])) other;
+      fields = ap (λ t. are_some_of (if t then further_names else codes "Content-Type" ∷ further_names) (map (λ f. f.name) (error_fields resource))) other ∙ some_names resource;
       body = λ is. absurd (differ (status == 204) ((Decides-eqb status 204).1 is) other);
     }
 
@@ -39,7 +45,11 @@ bad_error InvalidFraming = refl
 bad_error RequestBodyTooLarge = refl
 bad_error InvalidBody = refl
 bad_error CompressedBody = refl
+bad_error InvalidUri = refl
 bad_error NotImplemented = refl
+bad_error TableNotFound = refl
+bad_error (MethodNotAllowed resource) = refl
+bad_error InvalidQuery = refl
 bad_error MissingIfMatch = refl
 bad_error BadETag = refl
 bad_error KeyTooLong = refl
@@ -58,9 +68,9 @@ pub object_is : (code sentence : List ℕ) → codes "{\"odata.error\":{\"code\"
 object_is code sentence = simp append_assoc
 
 -- an error with these parts
-pub error_made : (status : ℕ) (fields : List ReplyField) (body code sentence : List ℕ) (close : Bool) → is_error_status status ≡ true → fields ≡ json_type ∷ [] → body ≡ error_object code sentence
-    → Makes (error_reply status code sentence close) (Ok (record { status = status; fields = fields; body = body; close = close }))
-error_made status fields body code sentence close is f b =
-    let same : ◌≡◌ {A = Reply} (record { status = status; fields = fields; body = body; close = close }) (error_reply status code sentence close) =
-    ap (λ z. record { status = status; fields = z; body = body; close = close }) f ∙ ap (λ z. record { status = status; fields = json_type ∷ []; body = z; close = close }) b in
-    (same, subst IsReply (sym same) (error_is status code sentence close is))
+pub error_made : (resource : Option Resource) (status : ℕ) (fields : List ReplyField) (body code sentence : List ℕ) (close : Bool) → is_error_status status ≡ true → fields ≡ error_fields resource → body ≡ error_object code sentence
+    → Makes (error_with resource status code sentence close) (Ok (record { status = status; fields = fields; body = body; close = close }))
+error_made resource status fields body code sentence close is f b =
+    let same : ◌≡◌ {A = Reply} (record { status = status; fields = fields; body = body; close = close }) (error_with resource status code sentence close) =
+    ap (λ z. record { status = status; fields = z; body = body; close = close }) f ∙ ap (λ z. record { status = status; fields = error_fields resource; body = z; close = close }) b in
+    (same, subst IsReply (sym same) (error_is resource status code sentence close is))

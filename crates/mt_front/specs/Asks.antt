@@ -9,7 +9,6 @@ use Rattle.mt_json.specs.declared.read.Body.{Body}
 use Rattle.mt_json.specs.declared.read.JsonFault.{JsonFault}
 use Rattle.mt_json.specs.declared.read.KeyUse.TheVariants.{InBody, InTarget}
 use Rattle.mt_json.specs.Body.{ReadsAs}
-use Rattle.mt_json.specs.declared.write.Level.TheVariants.{Minimal}
 use Rattle.mt_chain.specs.declared.op.Cond.{Cond}
 use Rattle.mt_chain.specs.declared.op.Cond.TheVariants as cond
 use Rattle.mt_chain.specs.declared.op.Op.{Op}
@@ -22,15 +21,20 @@ use Rattle.mt_http_in.specs.declared.fields.Field.{Field}
 use Rattle.mt_http_in.specs.declared.requests.Incoming.{Incoming}
 use Rattle.mt_http_in.specs.Fields.{is_packed}
 use Rattle.mt_http_in.specs.Heads.{fields_of}
-use Rattle.mt_front.specs.declared.routes.Action.{Action}
-use Rattle.mt_front.specs.declared.routes.Action.TheVariants.{Put, Merge, Delete}
+use Rattle.mt_target.specs.declared.target.Spelled.{Spelled}
+use Rattle.mt_target.specs.Targets.{SpellsIt}
+use Rattle.mt_front.specs.declared.methods.Method.{Method}
+use Rattle.mt_front.specs.declared.methods.Action.{Action}
+use Rattle.mt_front.specs.declared.methods.Action.TheVariants.{Put, Merge, Delete}
+use Rattle.mt_front.specs.Methods.{IsMethod}
 use Rattle.mt_front.specs.declared.routes.Route.{Route}
 use Rattle.mt_front.specs.declared.routes.Route.TheVariants as route
-use Rattle.mt_front.specs.declared.routes.IfMatch.{IfMatch}
-use Rattle.mt_front.specs.declared.routes.IfMatch.TheVariants as match
-use Rattle.mt_front.specs.Routes.{IsRoute, IsMatch, prefers_no_content}
+use Rattle.mt_front.specs.Routes.{route_refusal, route_by}
+use Rattle.mt_front.specs.declared.fields.IfMatch.{IfMatch}
+use Rattle.mt_front.specs.declared.fields.IfMatch.TheVariants as match
+use Rattle.mt_front.specs.Fields.{IsMatch, insert_echo}
 use Rattle.mt_front.specs.declared.refusals.BadRequest.{BadRequest}
-use Rattle.mt_front.specs.declared.refusals.BadRequest.TheVariants.{NotImplemented, CompressedBody, MissingIfMatch, BadETag}
+use Rattle.mt_front.specs.declared.refusals.BadRequest.TheVariants.{InvalidUri, CompressedBody, MissingIfMatch, BadETag}
 use Rattle.mt_front.specs.declared.asks.Asked.{Asked}
 use Rattle.mt_front.specs.declared.asks.Asked.TheVariants.{Write, Refused}
 use Rattle.mt_front.specs.declared.asks.Echo.{Echo}
@@ -50,22 +54,18 @@ KeyedBy (Some fault) then asked = IsRefused (key_refusal fault) asked
 
 -- ---- inserts: the body, and then the keys in it
 
-abbrev pub insert_echo : Bool → Echo
-insert_echo true = echo.NoContent
-insert_echo false = echo.Entity Minimal
-
 -- the two texts of a body's key
 pub record BodyHasKeys (body : Body) (pk rk : List ℕ) : Type 0 where
   pub pk_is : body.pk ≡ Some pk
   pub rk_is : body.rk ≡ Some rk
 
-abbrev pub InsertBy : Bool → Result Body JsonFault → Asked → Type 0
-InsertBy no_content (Ok body) asked = (pk : List ℕ) × (rk : List ℕ) × BodyHasKeys body pk rk
-    × KeyedBy (key_fault pk rk) (asked ≡ Write (op.Insert (key_at pk rk) body.props) (insert_echo no_content)) asked
-InsertBy no_content (Err fault) asked = IsRefused (body_refusal fault) asked
+abbrev pub InsertBy : Echo → Result Body JsonFault → Asked → Type 0
+InsertBy shown (Ok body) asked = (pk : List ℕ) × (rk : List ℕ) × BodyHasKeys body pk rk
+    × KeyedBy (key_fault pk rk) (asked ≡ Write (op.Insert (key_at pk rk) body.props) shown) asked
+InsertBy shown (Err fault) asked = IsRefused (body_refusal fault) asked
 
-abbrev pub AsksInsert : Bool → List ℕ → Asked → Type 0
-AsksInsert no_content bytes asked = (read : Result Body JsonFault) × ReadsAs InBody bytes read × InsertBy no_content read asked
+abbrev pub AsksInsert : Echo → List ℕ → Asked → Type 0
+AsksInsert shown bytes asked = (read : Result Body JsonFault) × ReadsAs InBody bytes read × InsertBy shown read asked
 
 -- ---- an entity's methods: If-Match, then the key in the target, then the body
 
@@ -115,11 +115,22 @@ abbrev pub MatchedBy : Option BadRequest → Type 0 → Asked → Type 0
 MatchedBy None then asked = then
 MatchedBy (Some r) then asked = asked ≡ Refused r
 
--- what a request of that route asks for
-abbrev pub AsksOn : Route → IfMatch → Bool → List ℕ → Asked → Type 0
-AsksOn route.Table m no_content bytes asked = AsksInsert no_content bytes asked
-AsksOn (route.Entity action pk rk) m no_content bytes asked =
+abbrev pub AsksEntity : Action → List ℕ → List ℕ → IfMatch → List ℕ → Asked → Type 0
+AsksEntity action pk rk m bytes asked =
     MatchedBy (match_refusal action m) (KeyedBy (key_fault pk rk) (AsksAction action (condition_of m) (key_at pk rk) bytes asked) asked) asked
+
+-- ---- routes
+
+-- what a request of that route asks for
+abbrev pub AsksOn : Route → List Field → List ℕ → Asked → Type 0
+AsksOn route.Insert fields bytes asked = AsksInsert (insert_echo fields) bytes asked
+AsksOn (route.Entity action pk rk) fields bytes asked = (m : IfMatch) × IsMatch fields m × AsksEntity action pk rk m bytes asked
+
+-- the route's refusal refuses, or what the route asks for is asked; what is not refused has a route
+abbrev pub AsksBy : Option BadRequest → Option Route → List Field → List ℕ → Asked → Type 0
+AsksBy (Some r) at fields bytes asked = asked ≡ Refused r
+AsksBy None (Some at) fields bytes asked = AsksOn at fields bytes asked
+AsksBy None None fields bytes asked = ⊥
 
 -- ---- whole requests
 
@@ -138,21 +149,21 @@ request_by h body = record { method = h.method; target = h.target; fields = fiel
 abbrev pub request_of : Incoming → Request
 request_of v = record { method = v.method; target = v.target; fields = v.fields; body = v.body }
 
--- the request is of a route that is built, and asks for this
-pub record AsksRouted (table : List ℕ) (q : Request) (asked : Asked) : Type 0 where
-  pub at : Route
-  pub if_match : IfMatch
-  pub is_route : IsRoute table q.method q.target at
-  pub is_match : IsMatch q.fields if_match
-  pub asks : AsksOn at if_match (prefers_no_content q.fields) q.body asked
+-- the target spells something, and by this, the method and the fields the request asks for this
+pub record AsksSpelled (table : List ℕ) (q : Request) (asked : Asked) : Type 0 where
+  pub method : Option Method
+  pub spelled : Spelled
+  pub is_method : IsMethod q.method method
+  pub is_spelled : SpellsIt q.target spelled
+  pub asks : AsksBy (route_refusal table spelled method) (route_by spelled.target method) q.fields q.body asked
 
--- the request is of no route that is built
-abbrev pub HasNoRoute : List ℕ → Request → Type 0
-HasNoRoute table q = (at : Route) → IsRoute table q.method q.target at → ⊥
+-- the target spells nothing
+abbrev pub SpellsNothing : List ℕ → Type 0
+SpellsNothing target = (spelled : Spelled) → SpellsIt target spelled → ⊥
 
 -- what a request on the table of that name asks for
 abbrev pub RequestAsks : List ℕ → Request → Asked → Type 0
-RequestAsks table q asked = AsksRouted table q asked ⊎ (HasNoRoute table q × (asked ≡ Refused NotImplemented))
+RequestAsks table q asked = AsksSpelled table q asked ⊎ (SpellsNothing q.target × (asked ≡ Refused InvalidUri))
 
 -- so, where its body is not compressed
 abbrev pub AsksUnpacked : Bool → List ℕ → Request → Asked → Type 0

@@ -1,3 +1,5 @@
+pub mod Methods
+pub mod Fields
 pub mod Routes
 pub mod Refusals
 pub mod Asks

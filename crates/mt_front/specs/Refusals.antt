@@ -1,5 +1,6 @@
 -- Why requests are refused, and the replies that say so, with an error object of OData's JSON format.
-use Rattle.std.specs.Prelude.{◌≡◌, ℕ, ◌==◌, nat_eq, Bool, true, not, ◌&&◌, List, [], ◌∷◌, ◌++◌, codes, Option, Some, None, Result, Ok, Err}
+use Rattle.std.specs.Prelude.{◌≡◌, ℕ, ◌==◌, nat_eq, Bool, true, not, ◌&&◌, List, ◌∷◌, ◌++◌, codes, Option, Some, None, option_map, Result, Ok, Err}
+use Rattle.std.specs.Option.{option_to_list}
 use Rattle.std.specs.Set.{is_member}
 use Rattle.mt_model.specs.declared.text.NoMemory.{NoMemory as NoRoom}
 use Rattle.mt_model.specs.declared.key.KeyFault.{KeyFault}
@@ -15,8 +16,10 @@ use Rattle.mt_http_in.specs.declared.Code.TheVariants as head
 use Rattle.mt_http_out.specs.declared.reply.Reply.{Reply}
 use Rattle.mt_http_out.specs.declared.reply.ReplyField.{ReplyField}
 use Rattle.mt_http_out.specs.Rendering.{statuses, IsReply}
+use Rattle.mt_front.specs.declared.methods.Resource.{Resource}
+use Rattle.mt_front.specs.Methods.{allow_text}
 use Rattle.mt_front.specs.declared.refusals.BadRequest.{BadRequest}
-use Rattle.mt_front.specs.declared.refusals.BadRequest.TheVariants.{InvalidHead, InvalidFraming, RequestBodyTooLarge, InvalidBody, CompressedBody, NotImplemented, MissingIfMatch, BadETag, KeyTooLong, KeyCharacter, InvalidJson, MissingKey, Double, BadName, BadType, TooManyProperties, PropertyTooLarge, EntityTooLarge}
+use Rattle.mt_front.specs.declared.refusals.BadRequest.TheVariants.{InvalidHead, InvalidFraming, RequestBodyTooLarge, InvalidBody, CompressedBody, InvalidUri, NotImplemented, TableNotFound, MethodNotAllowed, InvalidQuery, MissingIfMatch, BadETag, KeyTooLong, KeyCharacter, InvalidJson, MissingKey, Double, BadName, BadType, TooManyProperties, PropertyTooLarge, EntityTooLarge}
 
 -- the refusal of what is no whole request, or of a whole one whose body is compressed
 abbrev pub head_refusal : Code → BadRequest
@@ -61,9 +64,22 @@ error_object code sentence = codes "{\"odata.error\":{\"code\":\"" ++ code ++ co
 abbrev pub json_type : ReplyField
 json_type = record { name = codes "Content-Type"; value = codes "application/json" }
 
--- a reply of that status with that error object, behind which the connection ends or goes on
+-- the methods of a resource
+abbrev pub allow_field : Resource → ReplyField
+allow_field resource = record { name = codes "Allow"; value = allow_text resource }
+
+-- the body is JSON, and the methods of a resource are listed, where there is one to tell
+abbrev pub error_fields : Option Resource → List ReplyField
+error_fields resource = json_type ∷ option_to_list (option_map allow_field resource)
+
+-- a reply of that status with that error object, which lists the methods of that resource, and behind which the connection ends or goes on
+abbrev pub error_with : Option Resource → ℕ → List ℕ → List ℕ → Bool → Reply
+error_with resource status code sentence close =
+    record { status = status; fields = error_fields resource; body = error_object code sentence; close = close }
+
+-- a reply of that status with that error object
 abbrev pub error_reply : ℕ → List ℕ → List ℕ → Bool → Reply
-error_reply status code sentence close = record { status = status; fields = json_type ∷ []; body = error_object code sentence; close = close }
+error_reply status code sentence close = error_with None status code sentence close
 
 -- the code of a refusal before anything is tried
 abbrev pub bad_code : BadRequest → List ℕ
@@ -72,7 +88,11 @@ bad_code InvalidFraming = codes "InvalidFraming"
 bad_code RequestBodyTooLarge = codes "RequestBodyTooLarge"
 bad_code InvalidBody = codes "InvalidBody"
 bad_code CompressedBody = codes "CompressedBody"
+bad_code InvalidUri = codes "InvalidUri"
 bad_code NotImplemented = codes "NotImplemented"
+bad_code TableNotFound = codes "TableNotFound"
+bad_code (MethodNotAllowed resource) = codes "MethodNotAllowed"
+bad_code InvalidQuery = codes "InvalidQuery"
 bad_code MissingIfMatch = codes "MissingIfMatch"
 bad_code BadETag = codes "BadETag"
 bad_code KeyTooLong = codes "KeyTooLong"
@@ -93,7 +113,11 @@ bad_sentence InvalidFraming = codes "The body length is not valid."
 bad_sentence RequestBodyTooLarge = codes "The request body is too large."
 bad_sentence InvalidBody = codes "The request body is not complete."
 bad_sentence CompressedBody = codes "Compressed bodies are not supported."
+bad_sentence InvalidUri = codes "The request target is not valid."
 bad_sentence NotImplemented = codes "The request is not supported."
+bad_sentence TableNotFound = codes "The table does not exist."
+bad_sentence (MethodNotAllowed resource) = codes "The method is not allowed."
+bad_sentence InvalidQuery = codes "A query option is not valid."
 bad_sentence MissingIfMatch = codes "If-Match is required."
 bad_sentence BadETag = codes "The ETag is not valid."
 bad_sentence KeyTooLong = codes "A key is too long."
@@ -114,7 +138,11 @@ bad_status InvalidFraming = 400
 bad_status RequestBodyTooLarge = 413
 bad_status InvalidBody = 400
 bad_status CompressedBody = 501
+bad_status InvalidUri = 400
 bad_status NotImplemented = 501
+bad_status TableNotFound = 404
+bad_status (MethodNotAllowed resource) = 405
+bad_status InvalidQuery = 400
 bad_status MissingIfMatch = 400
 bad_status BadETag = 400
 bad_status KeyTooLong = 400
@@ -128,8 +156,13 @@ bad_status TooManyProperties = 400
 bad_status PropertyTooLarge = 400
 bad_status EntityTooLarge = 400
 
+-- the resource whose methods its reply lists
+abbrev pub allow_of : BadRequest → Option Resource
+allow_of (MethodNotAllowed resource) = Some resource
+allow_of r = None
+
 abbrev pub bad_reply : BadRequest → Bool → Reply
-bad_reply r close = error_reply (bad_status r) (bad_code r) (bad_sentence r) close
+bad_reply r close = error_with (allow_of r) (bad_status r) (bad_code r) (bad_sentence r) close
 
 -- the reply to an operation that the table refuses
 abbrev pub cause_reply : Cause → Bool → Reply

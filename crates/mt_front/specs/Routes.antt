@@ -1,104 +1,74 @@
--- The routes that are built, and the fields that an operation on a row reads.
-use Rattle.std.specs.Prelude.{◌≡◌, ◌⊎◌, ℕ, Bool, true, not, List, [], ◌∷◌, ◌++◌, codes, Option, Some, None, Result, Ok, Err}
-use Rattle.std.specs.List.{list_all}
-use Rattle.std.specs.Char.{is_ascii_alphanumeric}
-use Rattle.mt_model.specs.declared.tag.Tag.{Tag}
-use Rattle.mt_model.specs.declared.text.NoMemory.{NoMemory as NoRoom}
-use Rattle.mt_model.specs.Tag.{IsTag, tag_text}
+-- The refusals that come of a target and a method, in their order, and the routes that are built.
+use Rattle.std.specs.Prelude.{ℕ, nat_eq, Bool, true, false, not, ◌&&◌, ◌||◌, List, [], ◌∷◌, codes, Option, Some, None, option_map, if◌then◌else◌}
+use Rattle.std.specs.List.{list_any, starts_with}
+use Rattle.std.specs.Option.{is_some}
 use Rattle.mt_model.specs.TableName.{is_same_table}
-use Rattle.mt_http_in.specs.declared.fields.Field.{Field}
-use Rattle.mt_http_in.specs.Fields.{first_value, says}
-use Rattle.mt_front.specs.declared.routes.Action.{Action}
-use Rattle.mt_front.specs.declared.routes.Action.TheVariants.{Put, Merge, Delete}
+use Rattle.mt_target.specs.declared.target.Keys.TheVariants as keys
+use Rattle.mt_target.specs.declared.target.Target.{Target}
+use Rattle.mt_target.specs.declared.target.Target.TheVariants as target
+use Rattle.mt_target.specs.declared.target.QueryOption.{QueryOption}
+use Rattle.mt_target.specs.declared.target.Spelled.{Spelled}
+use Rattle.mt_target.specs.Options.{has_option, has_repeat}
+use Rattle.mt_front.specs.declared.methods.Method.{Method}
+use Rattle.mt_front.specs.declared.methods.Method.TheVariants.{Post}
 use Rattle.mt_front.specs.declared.routes.Route.{Route}
 use Rattle.mt_front.specs.declared.routes.Route.TheVariants as route
-use Rattle.mt_front.specs.declared.routes.IfMatch.{IfMatch}
-use Rattle.mt_front.specs.declared.routes.IfMatch.TheVariants.{Absent, Any, Is, Unreadable}
-use Rattle.mt_front.specs.declared.routes.Keys.{Keys}
+use Rattle.mt_front.specs.declared.refusals.BadRequest.{BadRequest}
+use Rattle.mt_front.specs.declared.refusals.BadRequest.TheVariants.{NotImplemented, TableNotFound, MethodNotAllowed, InvalidQuery}
+use Rattle.mt_front.specs.Methods.{resource_of, allows, action_of}
 
--- ---- targets
+-- ---- routes
 
--- ASCII letters and digits, or nothing
-abbrev pub is_plain_key : List ℕ → Bool
-is_plain_key key = list_all is_ascii_alphanumeric key
+-- the methods of targets whose machines are built; each later one adds its row
+abbrev pub route_by : Target → Option Method → Option Route
+route_by (target.Table name keys.Absent) (Some Post) = Some route.Insert
+route_by (target.Table name (keys.Entity pk rk)) (Some m) = option_map (λ action. route.Entity action pk rk) (action_of m)
+route_by t m = None
 
--- a slash and the table's name, which is compared without regard to case, and then the rest
-pub record HasTable (table target rest : List ℕ) : Type 0 where
-  pub name : List ℕ
-  pub same : is_same_table table name ≡ true
-  pub whole : target ≡ codes "/" ++ name ++ rest
+abbrev pub is_built : Target → Option Method → Bool
+is_built t m = is_some (route_by t m)
 
--- the keys of an entity in a target
-abbrev pub print_keys : List ℕ → List ℕ → List ℕ
-print_keys pk rk = codes "(PartitionKey='" ++ pk ++ codes "',RowKey='" ++ rk ++ codes "')"
+-- ---- refusals
 
--- the bytes are these keys
-pub record AreKeys (bytes pk rk : List ℕ) : Type 0 where
-  pub partition : is_plain_key pk ≡ true
-  pub row : is_plain_key rk ≡ true
-  pub whole : bytes ≡ print_keys pk rk
+-- this refusal, where the test holds
+abbrev pub when : Bool → BadRequest → Option BadRequest
+when b r = if b then Some r else None
 
--- the methods on an entity
-abbrev pub IsAction : List ℕ → Action → Type 0
-IsAction method Put = method ≡ codes "PUT"
-IsAction method Merge = (method ≡ codes "MERGE") ⊎ (method ≡ codes "PATCH")
-IsAction method Delete = method ≡ codes "DELETE"
+-- the first refusal of these
+abbrev pub first_of : List (Option BadRequest) → Option BadRequest
+first_of [] = None
+first_of (None ∷ rs) = first_of rs
+first_of (Some r ∷ rs) = Some r
 
--- the method, and what follows the table's name, are those of the route
-abbrev pub EndsAs : List ℕ → List ℕ → Route → Type 0
-EndsAs method rest route.Table = (method ≡ codes "POST") × (rest ≡ [])
-EndsAs method rest (route.Entity action pk rk) = IsAction method action × AreKeys rest pk rk
+abbrev pub is_list_of_tables : Target → Bool
+is_list_of_tables (target.Table name keys) = false
+is_list_of_tables target.Tables = true
+is_list_of_tables (target.Service s) = false
 
--- the method and the target are those of the route
-abbrev pub IsRoute : List ℕ → List ℕ → List ℕ → Route → Type 0
-IsRoute table method target r = (rest : List ℕ) × HasTable table target rest × EndsAs method rest r
+-- a system option of OData: its name begins with a dollar sign; no row that is built names one
+abbrev pub is_system : QueryOption → Bool
+is_system o = starts_with nat_eq o.name (codes "$")
 
--- ---- fields
+abbrev pub has_system : List QueryOption → Bool
+has_system options = list_any is_system options
 
--- what the value of If-Match says
-abbrev pub SaysMatch : List ℕ → IfMatch → Type 0
-SaysMatch value Absent = ⊥
-SaysMatch value Any = value ≡ codes "*"
-SaysMatch value (Is tag) = IsTag tag × (value ≡ tag_text tag)
-SaysMatch value Unreadable = (value ≡ codes "*" → ⊥) × ((tag : Tag) → IsTag tag → value ≡ tag_text tag → ⊥)
+-- the list of tables, the options of other services, a system option that the method's row does not name, or a method of the target's whose machine is not built
+abbrev pub is_unsupported : Spelled → Option Method → Bool
+is_unsupported s m =
+    is_list_of_tables s.target || has_option (codes "comp") s.options || has_option (codes "restype") s.options || has_system s.options
+    || (allows (resource_of s.target) m && not (is_built s.target m))
 
--- so for the value of the first one, where there is one
-abbrev pub FirstSays : Option (List ℕ) → IfMatch → Type 0
-FirstSays None m = m ≡ Absent
-FirstSays (Some value) m = SaysMatch value m
+-- the target names a table, and not this one
+abbrev pub names_another : List ℕ → Target → Bool
+names_another table (target.Table name keys) = not (is_same_table table name)
+names_another table target.Tables = false
+names_another table (target.Service s) = false
 
--- what the If-Match of these fields says
-abbrev pub IsMatch : List Field → IfMatch → Type 0
-IsMatch fields m = FirstSays (first_value (codes "if-match") fields) m
-
--- no content is preferred
-abbrev pub prefers_no_content : List Field → Bool
-prefers_no_content fields = says (codes "return-no-content") (first_value (codes "prefer") fields)
-
--- ---- parts
-
--- something of that kind was found, or there is none; want of memory says nothing
-abbrev pub Found : {T : Type 0} → (T → Type 0) → Result (Option T) NoRoom → Type 0
-Found P (Ok (Some x)) = P x
-Found {T} P (Ok None) = (x : T) → P x → ⊥
-Found P (Err e) = Unit {0}
-
-abbrev pub HasNoTable : List ℕ → List ℕ → Type 0
-HasNoTable table target = (rest : List ℕ) → HasTable table target rest → ⊥
-
-abbrev pub HasKeys : List ℕ → Keys → Type 0
-HasKeys bytes k = AreKeys bytes k.pk.now k.rk.now
-
-abbrev pub HasNoKeys : List ℕ → Type 0
-HasNoKeys bytes = (pk : List ℕ) (rk : List ℕ) → AreKeys bytes pk rk → ⊥
-
--- no byte of a key follows
-abbrev pub stops : List ℕ → Bool
-stops [] = true
-stops (c ∷ cs) = not (is_ascii_alphanumeric c)
-
--- the bytes begin with these letters and digits, and no more of them follow
-pub record IsRun (bytes run rest : List ℕ) : Type 0 where
-  pub whole : bytes ≡ run ++ rest
-  pub each : is_plain_key run ≡ true
-  pub longest : stops rest ≡ true
+-- the first that holds, in this order
+abbrev pub route_refusal : List ℕ → Spelled → Option Method → Option BadRequest
+route_refusal table s m = first_of (
+    when (is_unsupported s m) NotImplemented
+    ∷ when (names_another table s.target) TableNotFound
+    ∷ when (not (allows (resource_of s.target) m)) (MethodNotAllowed (resource_of s.target))
+    ∷ when (has_repeat s.options) InvalidQuery
+    ∷ [])

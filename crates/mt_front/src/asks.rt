@@ -5,21 +5,22 @@ ghost use Rattle.mt_model.specs.Key.{key_fault};
 ghost use Rattle.mt_model.specs.Name.{is_hidden};
 ghost use Rattle.mt_chain.specs.Rows.{key_at};
 ghost use Rattle.mt_chain.specs.declared.op.Op.TheVariants as op;
-ghost use Rattle.mt_front.specs.declared.routes.Route.TheVariants as route;
+ghost use Rattle.mt_model.specs.declared.key.Key.{Key};
+ghost use Rattle.mt_model.specs.declared.value.Prop.{Prop};
 ghost use Rattle.mt_front.specs.declared.asks.Asked.TheVariants as asked;
-ghost use Rattle.mt_front.specs.declared.routes.IfMatch.{IfMatch};
-ghost use Rattle.mt_front.specs.Routes.{IsMatch, prefers_no_content};
-ghost use Rattle.mt_front.specs.Asks.{BodyHasKeys, IsRefused, KeyedBy, InsertBy, AsksInsert, AsksAction, AsksWith, AsksOn, RequestAsks, request_of, CanTry, insert_echo, match_refusal, condition_of, put_op, merge_op};
+ghost use Rattle.mt_front.specs.Routes.{route_refusal, route_by};
+ghost use Rattle.mt_front.specs.Replies.{HasEcho};
+ghost use Rattle.mt_front.specs.Asks.{BodyHasKeys, IsRefused, KeyedBy, InsertBy, AsksInsert, AsksAction, AsksEntity, AsksWith, AsksOn, AsksBy, RequestAsks, request_of, CanTry, match_refusal, condition_of, put_op, merge_op};
 
-#[cfg(test)]
-mod tests;
-
+use crate::fields::{IfMatch, insert_echo, read_match};
+use crate::methods::{Action, Method, read_method};
 use crate::refusals::{BadRequest, body_refusal, key_refusal};
-use crate::routes::{Action, IfMatch, Route, prefers_no_content, read_match, read_route};
+use crate::routes::{Route, route_by, route_refusal};
 use mt_chain::{Cond, Op};
 use mt_http_in::{Field, Incoming};
 use mt_json::{Body, KeyUse, Level, read_entity};
 use mt_model::{Key, NoMemory, Props, Text};
+use mt_target::{Spelled, read_target};
 use std::alloc::Global;
 
 /// What the reply to a written row shows of it.
@@ -56,58 +57,45 @@ fn refuse(refusal: Option<BadRequest>) -> Result<Asked, NoMemory>
     }
 }
 
-fn insert_echo(no_content: bool) -> Echo
-    ensures { result ≡ insert_echo no_content }
-{
-    if no_content {
-        Echo::NoContent
-    } else {
-        Echo::Entity(Level::Minimal)
-    }
-}
-
 /// The insert of an entity of these keys and properties, or the refusal of the keys.
-fn insert_at(
-    alloc: Global,
-    no_content: bool,
-    pk: &str,
-    rk: &str,
-    props: Props,
-) -> Result<Asked, NoMemory>
-    requires { list_any (λ p. is_hidden p.name) props ≡ false }
-    ensures asks { IfOk result (λ a. KeyedBy (key_fault pk.now rk.now) (a ≡ asked.Write (op.Insert (key_at pk.now rk.now) props) (insert_echo no_content)) a) }
+fn insert_at(alloc: Global, echo: Echo, pk: &str, rk: &str, props: Props) -> Result<Asked, NoMemory>
+    requires visible { list_any (λ p. is_hidden p.name) props ≡ false }
+    requires shows { (key : Key) (props : List Prop) → HasEcho echo (op.Insert key props) }
+    ensures asks { IfOk result (λ a. KeyedBy (key_fault pk.now rk.now) (a ≡ asked.Write (op.Insert (key_at pk.now rk.now) props) echo) a) }
     ensures may { IfOk result CanTry }
 {
     match Key::read(alloc, pk, rk) {
         Ok(key) => Ok(Asked::Write {
             op: Op::Insert { key, props },
-            echo: insert_echo(no_content),
+            echo,
         }),
         Err(fault) => refuse(key_refusal(fault)),
     }
 }
 
 /// What an insert asks for whose body was read with its keys in it.
-fn insert_of(alloc: Global, no_content: bool, body: Body) -> Result<Asked, NoMemory>
+fn insert_of(alloc: Global, echo: Echo, body: Body) -> Result<Asked, NoMemory>
     requires keys { (pk rk : List ℕ) × BodyHasKeys body pk rk }
     requires visible { list_any (λ p. is_hidden p.name) body.props ≡ false }
-    ensures asks { IfOk result (InsertBy no_content (Ok body)) }
+    requires shows { (key : Key) (props : List Prop) → HasEcho echo (op.Insert key props) }
+    ensures asks { IfOk result (InsertBy echo (Ok body)) }
     ensures may { IfOk result CanTry }
 {
     let Body { pk, rk, props } = body;
     match (pk, rk) {
-        (Some(pk), Some(rk)) => insert_at(alloc, no_content, pk.as_str(), rk.as_str(), props),
+        (Some(pk), Some(rk)) => insert_at(alloc, echo, pk.as_str(), rk.as_str(), props),
         _ => unreachable!(),
     }
 }
 
-/// What an insert with this body asks for.
-fn insert_by(alloc: Global, no_content: bool, bytes: &[u8]) -> Result<Asked, NoMemory>
-    ensures asks { IfOk result (AsksInsert no_content bytes.now) }
+/// What an insert with this body asks for, whose reply shows this.
+fn insert_by(alloc: Global, echo: Echo, bytes: &[u8]) -> Result<Asked, NoMemory>
+    requires { (key : Key) (props : List Prop) → HasEcho echo (op.Insert key props) }
+    ensures asks { IfOk result (AsksInsert echo bytes.now) }
     ensures may { IfOk result CanTry }
 {
     match read_entity(alloc, bytes, KeyUse::InBody) {
-        Ok(body) => insert_of(alloc, no_content, body),
+        Ok(body) => insert_of(alloc, echo, body),
         Err(fault) => refuse(body_refusal(&fault)),
     }
 }
@@ -223,7 +211,7 @@ fn entity_by(
     rk: &str,
     bytes: &[u8],
 ) -> Result<Asked, NoMemory>
-    ensures asks { IfOk result (AsksOn (route.Entity action pk.now rk.now) if_match false bytes.now) }
+    ensures asks { IfOk result (AsksEntity action pk.now rk.now if_match bytes.now) }
     ensures may { IfOk result CanTry }
 {
     if let Some(refusal) = match_refusal(action, if_match) {
@@ -237,24 +225,46 @@ fn entity_by(
 
 /// What a request of that route asks for.
 fn asked_on(alloc: Global, at: Route, fields: &[Field], bytes: &[u8]) -> Result<Asked, NoMemory>
-    ensures asks { IfOk result (λ a. (m : IfMatch) × IsMatch fields.now m × AsksOn at m (prefers_no_content fields.now) bytes.now a) }
+    ensures asks { IfOk result (AsksOn at fields.now bytes.now) }
     ensures may { IfOk result CanTry }
 {
-    let if_match = read_match(fields);
     match at {
-        Route::Table => insert_by(alloc, prefers_no_content(fields), bytes),
+        Route::Insert => insert_by(alloc, insert_echo(fields), bytes),
         Route::Entity { action, pk, rk } => {
+            let if_match = read_match(fields);
             entity_by(alloc, action, if_match, pk.as_str(), rk.as_str(), bytes)
         }
     }
 }
 
-/// What a request on the table asks for: an operation on one row, or the first refusal. A request of
-/// no route that is built is refused first. An insert's keys stand in its body, which is looked at
-/// before them, and its If-Match is unread; at an entity's methods the order is If-Match, then the
-/// key in the target, then the body, whose keys are ignored, and Prefer is unread. Of a field the
-/// first counts. A body is a JSON object (RFC 8259) as `mt_json::read_entity` reads it, and nothing
-/// is read after a refusal.
+/// What a request asks for whose target spells this: the route's refusals come first.
+fn asked_at(
+    alloc: Global,
+    table: &Text,
+    spelled: Spelled,
+    method: Option<Method>,
+    fields: &[Field],
+    bytes: &[u8],
+) -> Result<Asked, NoMemory>
+    ensures asks { IfOk result (AsksBy (route_refusal table.now spelled method) (route_by spelled.target method) fields.now bytes.now) }
+    ensures may { IfOk result CanTry }
+{
+    if let Some(refusal) = route_refusal(alloc, table, &spelled, method)? {
+        return Ok(Asked::Refused(refusal));
+    }
+    match route_by(spelled.target, method) {
+        Some(at) => asked_on(alloc, at, fields, bytes),
+        None => unreachable!(),
+    }
+}
+
+/// What a request on the table asks for: an operation on one row, or the first refusal. First comes
+/// the target: one that spells nothing is refused, then what is not supported, another table's name, a
+/// method that the resource does not have, and an option's name that stands twice. An insert's keys
+/// stand in its body, which is looked at before them, and its If-Match is unread; at an entity's
+/// methods the order is If-Match, then the key in the target, then the body, whose keys are ignored,
+/// and Prefer and Accept are unread. Of a field the first counts. A body is a JSON object (RFC 8259) as
+/// `mt_json::read_entity` reads it, and nothing is read after a refusal.
 ///
 /// Without If-Match a put or a merge takes the row whether it is there or not; with it the row has
 /// to be there and to meet it. The operation's key keeps the rules of keys, it has no hidden property,
@@ -263,15 +273,16 @@ pub fn asked_by(alloc: Global, table: &Text, request: Incoming) -> Result<Asked,
     ensures asks { IfOk result (RequestAsks table.now (request_of request)) }
     ensures may { IfOk result CanTry }
 {
-    let method = request.method.as_str().as_bytes();
-    let target = request.target.as_str().as_bytes();
-    match read_route(alloc, table, method, target)? {
-        Some(at) => asked_on(
+    let method = read_method(request.method.as_str());
+    match read_target(alloc, request.target.as_str())? {
+        Some(spelled) => asked_at(
             alloc,
-            at,
+            table,
+            spelled,
+            method,
             request.fields.as_slice(),
             request.body.as_slice(),
         ),
-        None => Ok(Asked::Refused(BadRequest::NotImplemented)),
+        None => Ok(Asked::Refused(BadRequest::InvalidUri)),
     }
 }

@@ -4,6 +4,8 @@
 mod asks;
 mod batch;
 mod connection;
+mod fields;
+mod methods;
 mod refusals;
 mod reply;
 mod routes;
@@ -11,6 +13,7 @@ mod routes;
 pub use asks::{Asked, Echo, asked_by};
 pub use batch::batch_of;
 pub use connection::{ConnFault, End, Served, session};
+pub use methods::Resource;
 pub use refusals::{
     BadRequest, bad_request, cause_reply, head_refusal, history_full, no_memory, store_fault,
 };

@@ -1,11 +1,12 @@
 //! Why requests are refused, and the replies that say so: responses of HTTP/1.1 (RFC 9112) with an
 //! error object of OData's JSON format.
-ghost use Rattle.std.specs.Prelude.{◌≡◌, true, false, ◌∷◌, [], IfOk};
+ghost use Rattle.std.specs.Prelude.{◌≡◌, true, false, IfOk};
 ghost use Rattle.mt_json.specs.declared.read.JsonFault.TheVariants as json;
 ghost use Rattle.mt_json.specs.Body.{is_repeat};
 ghost use Rattle.mt_http_out.specs.Rendering.{bytes_of};
-ghost use Rattle.mt_front.specs.Refusals.{key_refusal, props_refusal, body_refusal, head_refusal, bad_status, bad_code, bad_sentence, error_object, json_type, error_reply, is_error_status, bad_reply, cause_reply, fault_reply, full_reply, memory_reply, Makes};
+ghost use Rattle.mt_front.specs.Refusals.{key_refusal, props_refusal, body_refusal, head_refusal, bad_status, bad_code, bad_sentence, error_object, error_fields, allow_of, error_with, error_reply, is_error_status, bad_reply, cause_reply, fault_reply, full_reply, memory_reply, Makes};
 
+use crate::methods::Resource;
 use mt_chain::Cause;
 use mt_http_in::Code;
 use mt_http_out::{Reply, ReplyField, ReplyFields};
@@ -14,9 +15,9 @@ use mt_model::{Blob, KeyFault, NoMemory, PropsFault, Text};
 use std::alloc::Global;
 
 /// Why a request is refused before anything is tried, in the order in which the reasons are looked
-/// for; but for an insert the body comes before its keys. The first four end the connection, and all but
-/// the last of the six before the others are `mt_http_in`'s. The status is 400 where none is given. Of `Double`, `BadName` and `BadType` the one
-/// at the first name in byte order is told.
+/// for; but for an insert the body comes before its keys. The first four end the connection, and the
+/// first five are `mt_http_in`'s. The status is 400 where none is given. Of `Double`, `BadName` and
+/// `BadType` the one at the first name in byte order is told.
 #[derive(Clone, Copy, Debug, PartialEq, Eq)]
 pub enum BadRequest {
     /// No head of HTTP/1.1 within the limits (400).
@@ -34,8 +35,21 @@ pub enum BadRequest {
     /// The body has a Content-Encoding other than `identity` (501).
     CompressedBody,
 
-    /// The method and the target are of no route that is built (501).
+    /// The target names nothing that there could be, or is no text.
+    InvalidUri,
+
+    /// The target is the list of tables, or it has an option that its method does not know, or the
+    /// machine of the method is not built (501).
     NotImplemented,
+
+    /// The target names another table (404).
+    TableNotFound,
+
+    /// The resource does not have the method (405).
+    MethodNotAllowed(Resource),
+
+    /// An option's name stands twice.
+    InvalidQuery,
 
     /// A delete without If-Match.
     MissingIfMatch,
@@ -135,9 +149,13 @@ impl BadRequest {
         match self {
             BadRequest::RequestBodyTooLarge => 413,
             BadRequest::CompressedBody | BadRequest::NotImplemented => 501,
+            BadRequest::TableNotFound => 404,
+            BadRequest::MethodNotAllowed(_) => 405,
             BadRequest::InvalidHead
             | BadRequest::InvalidFraming
             | BadRequest::InvalidBody
+            | BadRequest::InvalidUri
+            | BadRequest::InvalidQuery
             | BadRequest::MissingIfMatch
             | BadRequest::BadETag
             | BadRequest::KeyTooLong
@@ -163,7 +181,11 @@ impl BadRequest {
             BadRequest::RequestBodyTooLarge => "RequestBodyTooLarge",
             BadRequest::InvalidBody => "InvalidBody",
             BadRequest::CompressedBody => "CompressedBody",
+            BadRequest::InvalidUri => "InvalidUri",
             BadRequest::NotImplemented => "NotImplemented",
+            BadRequest::TableNotFound => "TableNotFound",
+            BadRequest::MethodNotAllowed(_) => "MethodNotAllowed",
+            BadRequest::InvalidQuery => "InvalidQuery",
             BadRequest::MissingIfMatch => "MissingIfMatch",
             BadRequest::BadETag => "BadETag",
             BadRequest::KeyTooLong => "KeyTooLong",
@@ -189,7 +211,11 @@ impl BadRequest {
             BadRequest::RequestBodyTooLarge => "The request body is too large.",
             BadRequest::InvalidBody => "The request body is not complete.",
             BadRequest::CompressedBody => "Compressed bodies are not supported.",
+            BadRequest::InvalidUri => "The request target is not valid.",
             BadRequest::NotImplemented => "The request is not supported.",
+            BadRequest::TableNotFound => "The table does not exist.",
+            BadRequest::MethodNotAllowed(_) => "The method is not allowed.",
+            BadRequest::InvalidQuery => "A query option is not valid.",
             BadRequest::MissingIfMatch => "If-Match is required.",
             BadRequest::BadETag => "The ETag is not valid.",
             BadRequest::KeyTooLong => "A key is too long.",
@@ -204,6 +230,16 @@ impl BadRequest {
             BadRequest::EntityTooLarge => "The entity is too large.",
         }
     }
+
+    /// The resource whose methods the reply lists.
+    fn allow_of(self) -> Option<Resource>
+        ensures { result ≡ allow_of self }
+    {
+        match self {
+            BadRequest::MethodNotAllowed(resource) => Some(resource),
+            _ => None,
+        }
+    }
 }
 
 /// The error object of a code and a sentence.
@@ -216,16 +252,47 @@ fn error_object(alloc: Global, code: &str, sentence: &str) -> Result<Blob, NoMem
     Blob::of(alloc, text.as_bytes())
 }
 
-/// The fields of a reply whose body is JSON.
-fn json_fields(alloc: Global) -> Result<ReplyFields, NoMemory>
-    ensures { IfOk result (λ f. f ≡ json_type ∷ []) }
+fn field(alloc: Global, name: &str, value: &str) -> Result<ReplyField, NoMemory>
+    ensures { IfOk result (λ f. f ≡ record { name = name.now; value = value.now }) }
 {
-    let mut fields = Vec::with_capacity(alloc, 1)?;
-    fields.push(ReplyField {
-        name: Text::of(alloc, "Content-Type")?,
-        value: Text::of(alloc, "application/json")?,
-    })?;
+    Ok(ReplyField {
+        name: Text::of(alloc, name)?,
+        value: Text::of(alloc, value)?,
+    })
+}
+
+/// The fields of a reply whose body is JSON, and which lists the methods of that resource.
+fn json_fields(alloc: Global, resource: Option<Resource>) -> Result<ReplyFields, NoMemory>
+    ensures { IfOk result (λ f. f ≡ error_fields resource) }
+{
+    let mut fields = Vec::with_capacity(alloc, 2)?;
+    fields.push(field(alloc, "Content-Type", "application/json")?)?;
+    if let Some(resource) = resource {
+        fields.push(field(alloc, "Allow", resource.allow())?)?;
+    }
     Ok(ReplyFields::of(fields))
+}
+
+/// A reply of that status with that error object, which lists the methods of that resource.
+fn error_with(
+    alloc: Global,
+    resource: Option<Resource>,
+    status: u16,
+    code: &str,
+    sentence: &str,
+    close: bool,
+) -> Result<Reply, NoMemory>
+    requires { is_error_status status ≡ true }
+    ensures { Makes (error_with resource status code.now sentence.now close) result }
+{
+    let fields = json_fields(alloc, resource)?;
+    let body = error_object(alloc, code, sentence)?;
+    Ok(Reply {
+        status,
+        fields,
+        body,
+        close,
+    })
 }
 
 /// A reply of that status with that error object.
@@ -239,23 +306,18 @@ fn error_reply(
     requires { is_error_status status ≡ true }
     ensures { Makes (error_reply status code.now sentence.now close) result }
 {
-    let fields = json_fields(alloc)?;
-    let body = error_object(alloc, code, sentence)?;
-    Ok(Reply {
-        status,
-        fields,
-        body,
-        close,
-    })
+    error_with(alloc, None, status, code, sentence, close)
 }
 
-/// The reply to a request that is refused before anything is tried: 400, 413 or 501. It ends the
-/// connection or not. The one error is want of memory, here and in the others.
+/// The reply to a request that is refused before anything is tried: 400, 404, 405, 413 or 501. At 405
+/// the field Allow has the resource's methods. It ends the connection or not. The one error is want of
+/// memory, here and in the others.
 pub fn bad_request(alloc: Global, refusal: BadRequest, close: bool) -> Result<Reply, NoMemory>
     ensures { Makes (bad_reply refusal close) result }
 {
-    error_reply(
+    error_with(
         alloc,
+        refusal.allow_of(),
         refusal.status(),
         refusal.code(),
         refusal.sentence(),

@@ -1,229 +1,129 @@
-//! The route of a request, from its method and its target, and the fields that an operation on a row
-//! reads.
-ghost use Rattle.std.specs.Prelude.{◌≡◌, ◌≢◌, ℕ, List, true, ◌++◌, MatchOption, IfOk, option_map};
-ghost use Rattle.mt_model.specs.TableName.{is_same_table};
-ghost use Rattle.mt_front.specs.declared.routes.Action.{Action};
-ghost use Rattle.mt_front.specs.declared.routes.Route.TheVariants as route;
-ghost use Rattle.mt_front.specs.Routes.{is_plain_key, HasTable, HasNoTable, HasKeys, HasNoKeys, IsAction, EndsAs, IsRoute, SaysMatch, IsMatch, FirstSays, Found, IsRun, prefers_no_content};
+//! The route of a request, from its target and its method, and the refusals that come before it.
+ghost use Rattle.std.specs.Prelude.{◌≡◌, IfOk};
+ghost use Rattle.mt_front.specs.Routes.{is_system, has_system, is_list_of_tables, is_built, is_unsupported, names_another, route_refusal, route_by};
 
-use mt_http_in::{Field, first_value, says};
-use mt_model::{NoMemory, Tag, Text};
+use crate::methods::{Action, Method, action_of, resource_of};
+use crate::refusals::BadRequest;
+use mt_model::{NoMemory, Text, is_same_table};
+use mt_target::{Keys, QueryOption, Spelled, Target, has_option, has_repeat};
 use std::alloc::Global;
-use std::str;
 
-/// What is asked for an entity.
-#[derive(Clone, Copy, Debug, PartialEq, Eq)]
-pub enum Action {
-    /// `PUT`: the entity gets these properties.
-    Put,
-
-    /// `MERGE` or `PATCH`: it gets these properties over its own.
-    Merge,
-
-    /// `DELETE`.
-    Delete,
-}
-
-/// What a request is sent to, and its method.
+/// A method of a resource whose machine is built: a row of the table of requests.
 #[derive(Drop)]
 pub enum Route {
     /// `POST` on the table.
-    Table,
+    Insert,
 
-    /// A method on the entity of this key.
+    /// A method on the entity of these keys.
     Entity { action: Action, pk: Text, rk: Text },
 }
 
-/// What the field If-Match says (RFC 9110).
-#[derive(Clone, Copy, Debug, PartialEq, Eq)]
-pub enum IfMatch {
-    /// There is no such field.
-    Absent,
-
-    /// `*`.
-    Any,
-
-    /// A tag as this server writes it.
-    Is(Tag),
-
-    /// Anything else.
-    Unreadable,
-}
-
-/// The keys of an entity, as they stand in a target.
-#[derive(Clone, Copy)]
-struct Keys<'a> {
-    pk: &'a [u8],
-    rk: &'a [u8],
-}
-
-/// The longest run of letters and digits at the front, and what follows it.
-fn split_key(bytes: &[u8]) -> (&[u8], &[u8])
-    ensures { IsRun bytes.now result.0.now result.1.now }
+/// Whether this is a system option of OData, whose name begins with a dollar sign.
+fn is_system(option: &QueryOption) -> bool
+    ensures { result ≡ is_system option.now }
 {
-    for (n, byte) in bytes.iter().enumerate() {
-        if !byte.is_ascii_alphanumeric() {
-            return bytes.split_at(n);
-        }
+    option.name.as_str().as_bytes().starts_with(b"$")
+}
+
+fn has_system(options: &[QueryOption]) -> bool
+    ensures { result ≡ has_system options.now }
+{
+    options.iter().any(|option| is_system(option))
+}
+
+fn is_list_of_tables(target: &Target) -> bool
+    ensures { result ≡ is_list_of_tables target.now }
+{
+    match target {
+        Target::Tables => true,
+        Target::Table { .. } | Target::Service(_) => false,
     }
-    (bytes, &[])
 }
 
-/// What follows the literal, where the bytes begin with it.
-fn after<'a>(bytes: &'a [u8], literal: &[u8]) -> Option<&'a [u8]>
-    ensures { MatchOption result ((rest : List ℕ) → bytes.now ≢ literal.now ++ rest) (λ rest. bytes.now ≡ literal.now ++ rest.now) }
+/// Whether the machine of that method of the target is built.
+fn is_built(target: &Target, method: Option<Method>) -> bool
+    ensures { result ≡ is_built target.now method }
 {
-    bytes.strip_prefix(literal)
-}
-
-fn is_table(table: &Text, name: &[u8]) -> bool
-    ensures { result ≡ is_same_table table.now name.now }
-{
-    table.as_str().as_bytes().eq_ignore_ascii_case(name)
-}
-
-/// What follows the table's name.
-fn after_table<'a>(table: &Text, target: &'a [u8]) -> Option<&'a [u8]>
-    ensures { MatchOption result (HasNoTable table.now target.now) (λ rest. HasTable table.now target.now rest.now) }
-{
-    let Some(rest) = after(target, b"/") else {
-        return None;
+    let Some(method) = method else {
+        return false;
     };
-    let length = table.as_str().len();
-    if rest.len() < length {
-        return None;
-    }
-    let (name, rest) = rest.split_at(length);
-    if is_table(table, name) {
-        Some(rest)
-    } else {
-        None
+    match target {
+        Target::Table { keys, .. } => match keys {
+            Keys::Absent => matches!(method, Method::Post),
+            Keys::Empty => false,
+            Keys::Entity { .. } => action_of(method).is_some(),
+        },
+        Target::Tables | Target::Service(_) => false,
     }
 }
 
-/// The keys that the bytes are.
-fn peel_keys(bytes: &[u8]) -> Option<Keys<'_>>
-    ensures { MatchOption result (HasNoKeys bytes.now) (HasKeys bytes.now) }
+/// Whether the request is of a kind that is not supported.
+fn is_unsupported(spelled: &Spelled, method: Option<Method>) -> bool
+    ensures { result ≡ is_unsupported spelled.now method }
 {
-    let Some(rest) = after(bytes, b"(PartitionKey='") else {
-        return None;
-    };
-    let (pk, rest) = split_key(rest);
-    let Some(rest) = after(rest, b"',RowKey='") else {
-        return None;
-    };
-    let (rk, rest) = split_key(rest);
-    if rest == b"')".as_slice() {
-        Some(Keys { pk, rk })
-    } else {
-        None
+    let target = &spelled.target;
+    let options = spelled.options.as_slice();
+    if is_list_of_tables(target) || has_option(options, "comp") || has_option(options, "restype") {
+        return true;
     }
+    has_system(options) || (resource_of(target).allows(method) && !is_built(target, method))
 }
 
-/// The key as a text of its own.
-fn key_text(alloc: Global, key: &[u8]) -> Result<Text, NoMemory>
-    requires { is_plain_key key.now ≡ true }
-    ensures { IfOk result (λ text. text ≡ key.now) }
+/// Whether the target names another table.
+fn names_another(table: &Text, target: &Target) -> bool
+    ensures { result ≡ names_another table.now target.now }
 {
-    match str::from_utf8(key) {
-        Ok(text) => Text::of(alloc, text),
-        Err(_) => unreachable!(),
+    match target {
+        Target::Table { name, .. } => !is_same_table(table.as_str(), name.as_str()),
+        Target::Tables | Target::Service(_) => false,
     }
 }
 
-fn action_of(method: &[u8]) -> Option<Action>
-    ensures { MatchOption result ((action : Action) → IsAction method.now action → ⊥) (IsAction method.now) }
-{
-    if method == b"PUT".as_slice() {
-        return Some(Action::Put);
-    }
-    if method == b"MERGE".as_slice() || method == b"PATCH".as_slice() {
-        return Some(Action::Merge);
-    }
-    if method == b"DELETE".as_slice() {
-        return Some(Action::Delete);
-    }
-    None
-}
-
-/// The route of an action on the entity of these keys.
-fn entity_route(alloc: Global, action: Action, keys: Keys<'_>) -> Result<Route, NoMemory>
-    requires partition { is_plain_key keys.pk.now ≡ true }
-    requires row { is_plain_key keys.rk.now ≡ true }
-    ensures { IfOk result (λ r. r ≡ route.Entity action keys.entry.pk.now keys.entry.rk.now) }
-{
-    let pk = key_text(alloc, keys.pk)?;
-    let rk = key_text(alloc, keys.rk)?;
-    Ok(Route::Entity { action, pk, rk })
-}
-
-/// The route that the method names, and what follows the table's name.
-fn read_end(alloc: Global, method: &[u8], rest: &[u8]) -> Result<Option<Route>, NoMemory>
-    ensures { Found (EndsAs method.now rest.now) result }
-{
-    if method == b"POST".as_slice() {
-        return if rest.is_empty() {
-            Ok(Some(Route::Table))
-        } else {
-            Ok(None)
-        };
-    }
-    let Some(action) = action_of(method) else {
-        return Ok(None);
-    };
-    let Some(keys) = peel_keys(rest) else {
-        return Ok(None);
-    };
-    Ok(Some(entity_route(alloc, action, keys)?))
-}
-
-/// The route that the method and the target name, on the table of that name; None where it is not built.
-pub fn read_route(
+/// The first refusal that comes of a target and a method, on the table of that name. The one error is
+/// want of memory.
+pub fn route_refusal(
     alloc: Global,
     table: &Text,
-    method: &[u8],
-    target: &[u8],
-) -> Result<Option<Route>, NoMemory>
-    ensures { Found (IsRoute table.now method.now target.now) result }
+    spelled: &Spelled,
+    method: Option<Method>,
+) -> Result<Option<BadRequest>, NoMemory>
+    ensures { IfOk result (λ r. r ≡ route_refusal table.now spelled.now method) }
 {
-    match after_table(table, target) {
-        Some(rest) => read_end(alloc, method, rest),
-        None => Ok(None),
+    if is_unsupported(spelled, method) {
+        return Ok(Some(BadRequest::NotImplemented));
     }
+    if names_another(table, &spelled.target) {
+        return Ok(Some(BadRequest::TableNotFound));
+    }
+    let resource = resource_of(&spelled.target);
+    if !resource.allows(method) {
+        return Ok(Some(BadRequest::MethodNotAllowed(resource)));
+    }
+    if has_repeat(alloc, spelled.options.as_slice())? {
+        return Ok(Some(BadRequest::InvalidQuery));
+    }
+    Ok(None)
 }
 
-fn match_of(value: &[u8]) -> IfMatch
-    ensures { SaysMatch value.now result }
+/// The route that the target and the method name, where it is built.
+pub fn route_by(target: Target, method: Option<Method>) -> Option<Route>
+    ensures { result ≡ route_by target method }
 {
-    if value == b"*".as_slice() {
-        return IfMatch::Any;
+    let Target::Table { keys, .. } = target else {
+        return None;
+    };
+    let Some(method) = method else {
+        return None;
+    };
+    match keys {
+        Keys::Absent => match method {
+            Method::Post => Some(Route::Insert),
+            _ => None,
+        },
+        Keys::Empty => None,
+        Keys::Entity { pk, rk } => match action_of(method) {
+            Some(action) => Some(Route::Entity { action, pk, rk }),
+            None => None,
+        },
     }
-    match Tag::read(value) {
-        Some(tag) => IfMatch::Is(tag),
-        None => IfMatch::Unreadable,
-    }
-}
-
-/// What the value of the first If-Match says.
-fn first_match(value: Option<&[u8]>) -> IfMatch
-    ensures { FirstSays (option_map (λ v. v.now) value.entry) result }
-{
-    match value {
-        Some(value) => match_of(value),
-        None => IfMatch::Absent,
-    }
-}
-
-/// What the fields say in If-Match: the first one counts.
-pub fn read_match(fields: &[Field]) -> IfMatch
-    ensures { IsMatch fields.now result }
-{
-    first_match(first_value(fields, b"if-match"))
-}
-
-/// Whether the first Prefer is `return-no-content`, without regard to ASCII case.
-pub fn prefers_no_content(fields: &[Field]) -> bool
-    ensures { result ≡ prefers_no_content fields.now }
-{
-    says(first_value(fields, b"prefer"), b"return-no-content")
 }

@@ -29,6 +29,7 @@ enum Output {
     /// A refusal, and then the first insert's reply.
     PackedAndCreated,
     OtherAndCreated,
+    UnallowedAndCreated,
 }
 
 const CONTINUE: &str = "HTTP/1.1 100 Continue\r\n\r\n";
@@ -54,6 +55,9 @@ const PACKED: &str =
 const OTHER: &str =
     "HTTP/1.1 501 Not Implemented\r\nContent-Type: application/json\r\nContent-Length: 108\r\n\r\n{\"odata.error\":{\"code\":\"NotImplemented\",\"message\":{\"lang\":\"en-US\",\"value\":\"The request is not supported.\"}}}";
 
+const UNALLOWED: &str =
+    "HTTP/1.1 405 Method Not Allowed\r\nContent-Type: application/json\r\nAllow: POST, GET\r\nContent-Length: 107\r\n\r\n{\"odata.error\":{\"code\":\"MethodNotAllowed\",\"message\":{\"lang\":\"en-US\",\"value\":\"The method is not allowed.\"}}}";
+
 fn texts_of(output: Output) -> (&'static str, &'static str) {
     match output {
         Output::Nothing => ("", ""),
@@ -68,6 +72,7 @@ fn texts_of(output: Output) -> (&'static str, &'static str) {
         Output::Body => (BODY, ""),
         Output::PackedAndCreated => (PACKED, CREATED),
         Output::OtherAndCreated => (OTHER, CREATED),
+        Output::UnallowedAndCreated => (UNALLOWED, CREATED),
     }
 }
 
@@ -203,7 +208,10 @@ fn refusals_that_go_on(rt: HostRuntime) -> Result<(), Fail> {
     let alloc = rt.alloc();
     for (before, output) in [
         ("GET /Orders HTTP/1.1\r\n\r\n", Output::OtherAndCreated),
-        ("HEAD /Orders HTTP/1.1\r\n\r\n", Output::OtherAndCreated),
+        (
+            "HEAD /Orders HTTP/1.1\r\n\r\n",
+            Output::UnallowedAndCreated,
+        ),
         (
             "POST /Orders HTTP/1.1\r\nContent-Encoding: gzip\r\nContent-Length: 2\r\n\r\n{}",
             Output::PackedAndCreated,

@@ -1,8 +1,11 @@
-//! Tests of whole runs of the program, from its words and input to its output and status.
+//! Tests of what requests ask for, and of whole runs of the program, from its words and input to its
+//! output and status.
 #![tactic(auto)]
 
 #[cfg(test)]
 mod answers;
+#[cfg(test)]
+mod asks;
 #[cfg(test)]
 mod commands;
 #[cfg(test)]

@@ -1,9 +1,10 @@
-use super::{Asked, Echo, asked_by};
-use crate::refusals::BadRequest;
+//! What single requests ask for: the operation, or the first refusal.
 use mt_chain::{Cond, Op};
+use mt_front::{Asked, BadRequest, Echo, Resource, asked_by};
 use mt_http_in::{Field, Fields, Incoming};
 use mt_json::Level;
 use mt_model::{Blob, Key, Name, Prop, Props, Tag, Text, Value};
+use mt_target::Service;
 use std::alloc::Global;
 use std::test::Fail;
 
@@ -110,45 +111,54 @@ fn asked_shortly(alloc: Global, sent: Sent) -> Result<Got, Fail> {
     Ok(shortly(&asked))
 }
 
-const OTHER: Got = Got::Refused(BadRequest::NotImplemented);
-
 const UNMATCHED: Got = Got::Refused(BadRequest::MissingIfMatch);
 
+const INVALID: Got = Got::Refused(BadRequest::InvalidUri);
+
+const UNSUPPORTED: Got = Got::Refused(BadRequest::NotImplemented);
+
+const NO_TABLE: Got = Got::Refused(BadRequest::TableNotFound);
+
+const REPEATED: Got = Got::Refused(BadRequest::InvalidQuery);
+
+const INSERTED: Got = Got::Insert(Echo::Entity(Level::Minimal));
+
+/// The resource does not have the method.
+fn refused_at(resource: Resource) -> Got {
+    Got::Refused(BadRequest::MethodNotAllowed(resource))
+}
+
 #[test]
-fn routes(rt: HostRuntime) -> Result<(), Fail> {
+fn methods_of_resources(rt: HostRuntime) -> Result<(), Fail> {
     let alloc = rt.alloc();
     for (method, target, want) in [
-        ("POST", "/Orders", Got::Insert(Echo::Entity(Level::Minimal))),
-        ("POST", "/oRDERS", Got::Insert(Echo::Entity(Level::Minimal))),
+        ("POST", "/Orders", INSERTED),
         ("PUT", ENTITY, Got::InsertOrReplace),
         ("MERGE", ENTITY, Got::InsertOrMerge),
         ("PATCH", ENTITY, Got::InsertOrMerge),
         ("DELETE", ENTITY, UNMATCHED),
+        ("GET", "/Orders", UNSUPPORTED),
+        ("GET", "/Orders()", UNSUPPORTED),
+        ("GET", ENTITY, UNSUPPORTED),
+        ("POST", "/$batch", UNSUPPORTED),
+        ("POST", "/$mt/migrate?steps=1", UNSUPPORTED),
+        ("GET", "/$mt/status", UNSUPPORTED),
+        ("DELETE", "/Tables('x')", UNSUPPORTED),
+        ("HEAD", "/Orders", refused_at(Resource::Table)),
+        ("post", "/Orders", refused_at(Resource::Table)),
+        ("PUT", "/Orders", refused_at(Resource::Table)),
+        ("POST", "/Orders()", refused_at(Resource::Entities)),
+        ("POST", ENTITY, refused_at(Resource::Entity)),
         (
-            "PUT",
-            "/ORDERS(PartitionKey='P0',RowKey='9r')",
-            Got::InsertOrReplace,
+            "GET",
+            "/$batch",
+            refused_at(Resource::Service(Service::Batch)),
         ),
-        ("DELETE", "/Orders(PartitionKey='',RowKey='')", UNMATCHED),
-        ("GET", "/Orders", OTHER),
-        ("HEAD", "/Orders", OTHER),
-        ("post", "/Orders", OTHER),
-        ("PUT", "/Orders", OTHER),
-        ("POST", ENTITY, OTHER),
-        ("POST", "/Orders?timeout=1", OTHER),
-        ("POST", "/Orders()", OTHER),
-        ("POST", "/Order", OTHER),
-        ("POST", "/Orders2", OTHER),
-        ("POST", "Orders", OTHER),
-        ("POST", "http://host/Orders", OTHER),
-        ("PUT", "/Orders(PartitionKey='p-q',RowKey='r')", OTHER),
-        ("PUT", "/Orders(PartitionKey='p',RowKey='%72')", OTHER),
-        ("PUT", "/Orders(PartitionKey='p',RowKey='r''s')", OTHER),
-        ("PUT", "/Orders(RowKey='r',PartitionKey='p')", OTHER),
-        ("PUT", "/Orders(partitionkey='p',rowkey='r')", OTHER),
-        ("PUT", "/Orders(PartitionKey='p', RowKey='r')", OTHER),
-        ("PUT", "/Orders(PartitionKey='p',RowKey='r')?x", OTHER),
-        ("DELETE", "/Order(PartitionKey='p',RowKey='r')", OTHER),
+        (
+            "POST",
+            "/$mt/status",
+            refused_at(Resource::Service(Service::Status)),
+        ),
     ] {
         let sent = Sent {
             method,
@@ -157,6 +167,114 @@ fn routes(rt: HostRuntime) -> Result<(), Fail> {
         };
         let got = asked_shortly(alloc, sent)?;
         assert!(rt; got == want, "{got:?} for {method} {target}");
+    }
+    Ok(())
+}
+
+#[test]
+fn targets(rt: HostRuntime) -> Result<(), Fail> {
+    let alloc = rt.alloc();
+    for (target, want) in [
+        ("/oRDERS", INSERTED),
+        ("/Ord%65rs", INSERTED),
+        ("http://host/Orders", INSERTED),
+        ("/Orders?timeout=1", INSERTED),
+        ("/Orders?Comp=acl&a+b=1&a%20b=2", INSERTED),
+        ("/Order", NO_TABLE),
+        ("/Orders2", NO_TABLE),
+        ("/ab", INVALID),
+        ("Orders", INVALID),
+        ("http://host", INVALID),
+        ("/Orders%FF", INVALID),
+        ("/Orders?x=%FF", INVALID),
+        ("/Orders(RowKey='r',PartitionKey='p')", INVALID),
+        ("/Orders(PartitionKey='p', RowKey='r')", INVALID),
+        ("/Orders?comp=acl", UNSUPPORTED),
+        ("/Orders?%63omp", UNSUPPORTED),
+        ("/Orders?restype=x", UNSUPPORTED),
+        ("/Orders?$top=5", UNSUPPORTED),
+        ("/Orders?a=1&%61=2", REPEATED),
+        ("/Orders?a+b=1&a%2Bb=2", REPEATED),
+    ] {
+        let got = asked_shortly(alloc, Sent { target, ..INSERT })?;
+        assert!(rt; got == want, "{got:?} for {target}");
+    }
+    Ok(())
+}
+
+#[test]
+fn keys_in_targets(rt: HostRuntime) -> Result<(), Fail> {
+    let alloc = rt.alloc();
+    let character = Got::Refused(BadRequest::KeyCharacter);
+    for (target, want) in [
+        (
+            "/ORDERS(PartitionKey='P0',RowKey='9r')",
+            Got::InsertOrReplace,
+        ),
+        ("/Orders(PartitionKey='',RowKey='')", Got::InsertOrReplace),
+        (
+            "/Orders(PartitionKey='it''s',RowKey='%C3%A4')",
+            Got::InsertOrReplace,
+        ),
+        (
+            "/Orders(PartitionKey=%27p%27,RowKey='p-q')?x",
+            Got::InsertOrReplace,
+        ),
+        ("/Orders(PartitionKey='it%27s',RowKey='r')", INVALID),
+        ("/Orders(PartitionKey='a%2Fb',RowKey='r')", character),
+        ("/Orders(PartitionKey='p',RowKey='a%00')", character),
+    ] {
+        let got = asked_shortly(alloc, Sent { target, ..PUT })?;
+        assert!(rt; got == want, "{got:?} for {target}");
+    }
+    Ok(())
+}
+
+/// What is not supported comes before another table, that before the method, and that before a
+/// repeated option; all of them before If-Match.
+#[test]
+fn the_route_refuses_in_order(rt: HostRuntime) -> Result<(), Fail> {
+    let alloc = rt.alloc();
+    for (method, target, want) in [
+        ("HEAD", "/ab?comp=acl", INVALID),
+        ("HEAD", "/Other?comp=acl&a&a", UNSUPPORTED),
+        ("GET", "/Other", UNSUPPORTED),
+        ("PUT", "/Orders?$top=5", UNSUPPORTED),
+        ("HEAD", "/Other?a&a", NO_TABLE),
+        ("HEAD", "/Orders?a&a", refused_at(Resource::Table)),
+        (
+            "DELETE",
+            "/Orders(PartitionKey='/',RowKey='r')?a&a",
+            REPEATED,
+        ),
+        ("DELETE", "/Orders(PartitionKey='/',RowKey='r')", UNMATCHED),
+    ] {
+        let sent = Sent {
+            method,
+            target,
+            ..INSERT
+        };
+        let got = asked_shortly(alloc, sent)?;
+        assert!(rt; got == want, "{got:?} for {method} {target}");
+    }
+    Ok(())
+}
+
+#[test]
+fn levels_of_inserts(rt: HostRuntime) -> Result<(), Fail> {
+    let alloc = rt.alloc();
+    for (value, level) in [
+        ("application/json", Level::Minimal),
+        ("odata=nometadat", Level::Minimal),
+        ("odata=nometadata", Level::None),
+        ("application/json; OData=NoMetaData; q=1", Level::None),
+    ] {
+        let first = ("accept", value);
+        let got = asked_shortly(alloc, Sent { first, ..INSERT })?;
+        assert!(rt;
+            got == Got::Insert(Echo::Entity(level)),
+            "{got:?} for {value}"
+        );
     }
     Ok(())
 }
