@@ -133,7 +133,7 @@ lesser_may test (Some a) (Some b) h k = go (is_le (slice_cmp nat_cmp a b)) where
   go true = h
   go false = k
 
-fair_may : (o : Option (List ℕ)) → is_fair_next o ≡ true → MayBe is_partition_key o
+pub fair_may : (o : Option (List ℕ)) → is_fair_next o ≡ true → MayBe is_partition_key o
 fair_may None h = tt
 fair_may (Some pk) h = h
 
@@ -231,11 +231,11 @@ past_below (part.After low) x pk before past = ap is_lt (go (text_cmp low x) ref
 
 -- ---- the rows of a page, and more behind them
 
-all_map : (P Q : Entity → Type 0) (es : List Entity) → ((e : Entity) → P e → Q e) → AllByRecursion P es → AllByRecursion Q es
+pub all_map : (P Q : Entity → Type 0) (es : List Entity) → ((e : Entity) → P e → Q e) → AllByRecursion P es → AllByRecursion Q es
 all_map P Q [] f h = tt
 all_map P Q (e ∷ es) f h = (f e h.0, all_map P Q es f h.1)
 
-all_append : (P : Entity → Type 0) (es fs : List Entity) → AllByRecursion P es → AllByRecursion P fs → AllByRecursion P (es ++ fs)
+pub all_append : (P : Entity → Type 0) (es fs : List Entity) → AllByRecursion P es → AllByRecursion P fs → AllByRecursion P (es ++ fs)
 all_append P [] fs h k = k
 all_append P (e ∷ es) fs h k = (h.0, all_append P es fs h.1 k)
 
@@ -244,7 +244,7 @@ below_append x [] [] h k = tt
 below_append x [] (f ∷ fs) h k = (k.0, below_append x [] fs tt k.1)
 below_append x (e ∷ es) fs h k = (h.0, below_append x es fs h.1 k)
 
-rise_append : (es fs : List Entity) → RisingKeys es → RisingKeys fs → AllByRecursion (λ (e : Entity). AllByRecursion (λ (f : Entity). key_cmp e.key f.key ≡ Less) fs) es → RisingKeys (es ++ fs)
+pub rise_append : (es fs : List Entity) → RisingKeys es → RisingKeys fs → AllByRecursion (λ (e : Entity). AllByRecursion (λ (f : Entity). key_cmp e.key f.key ≡ Less) fs) es → RisingKeys (es ++ fs)
 unfolding IsStrictlySortedBy
 rise_append [] fs h k below = k
 rise_append (e ∷ es) fs h k below = (below_append e.key es fs h.0 below.0, rise_append es fs h.1 k below.1)

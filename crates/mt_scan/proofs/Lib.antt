@@ -8,3 +8,7 @@ pub mod ScanLaws
 pub mod PageLaw
 pub mod FairLaws
 pub mod StepLaw
+pub mod NeedLaws
+pub mod PlaceLaws
+pub mod StreamLaws
+pub mod Theorems

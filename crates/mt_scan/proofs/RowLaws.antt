@@ -33,7 +33,7 @@ use Rattle.mt_scan.specs.Pages.{AreIn}
 -- ---- rows of a list
 
 -- each row of a list that rises stands at its key
-each_there : (es : List Entity) → are_rising (rows_of es) ≡ true → AllByRecursion (λ e. table_of (rows_of es) e.key ≡ Some (record { props = e.props; tag = e.tag })) es
+pub each_there : (es : List Entity) → are_rising (rows_of es) ≡ true → AllByRecursion (λ e. table_of (rows_of es) e.key ≡ Some (record { props = e.props; tag = e.tag })) es
 each_there [] rising = tt
 each_there (x ∷ es) rising = (
   ap (λ b. cond b (Some (record { props = x.props; tag = x.tag })) (table_of (rows_of es) x.key)) (is_tied x.key x.key ∙ ap (λ b. b && bytes_eq x.key.rk x.key.rk) (text_same x.key.pk) ∙ text_same x.key.rk),

@@ -6,6 +6,7 @@ use Rattle.std.proofs.lemmas.Bool.Decides.{nat_tests}
 use Rattle.std.specs.Ordering.{nat_cmp, is_lt, is_le, ordering_reverse}
 use Rattle.std.specs.Cmp.Lexicographic.{slice_cmp, nat_list_cmp_total}
 use Rattle.mt_filter.specs.declared.filter.Filter.{Filter}
+use Rattle.mt_match.specs.declared.bounds.Bounds.{Bounds}
 use Rattle.mt_model.specs.declared.entity.Entity.{Entity}
 use Rattle.mt_chain.specs.declared.query.Found.{Found}
 use Rattle.mt_chain.specs.declared.query.Next.{Next}
@@ -40,8 +41,8 @@ use Rattle.mt_scan.specs.declared.saw.Half.{Half}
 use Rattle.mt_scan.specs.declared.saw.Half.TheVariants.{First, Turned, Closed, Named}
 use Rattle.mt_scan.specs.Units.{from_row, IsNext, Delivers}
 use Rattle.mt_scan.specs.Chunks.{is_fair, is_fair_next, lesser, Chunk}
-use Rattle.mt_scan.specs.Pages.{Page, is_end, is_over, range_at, asks, Lead, again, on, chunk, gap, saw_rows, saw_first, read_lead, next_lead, lead_of, with_half, after, IsScan, MakesAt, Comes, Absorbs, MayBe, IsPage, half_facts, page_facts}
-use Rattle.mt_scan.specs.PageSteps.{calls_left, DoesUnit, Does, PageStep}
+use Rattle.mt_scan.specs.Pages.{Page, is_end, is_over, side_of, range_at, asks, asks_at, Lead, again, on, chunk, gap, saw_rows, saw_first, read_lead, next_lead, lead_of, with_half, after, IsScan, MakesAt, Comes, Absorbs, MayBe, IsPage, half_facts, page_facts}
+use Rattle.mt_scan.specs.PageSteps.{contents_on, calls_left, DoesUnit, Does, PageStep}
 use Rattle.mt_scan.proofs.RowLaws.{MayBeGood, chunk_end}
 use Rattle.mt_scan.proofs.FitLaws.{LeadFits, fit_of, past_row, less_le}
 use Rattle.mt_scan.proofs.ScanLaws.{Agrees, scan_rows}
@@ -201,22 +202,21 @@ module _ (page : Page) (fits : IsPage page) (going : is_over page ≡ false) (p 
 
   -- ---- replies
 
-  module _ (old_rises : IsContents p.old) (new_rises : IsContents p.new) where
-    abbrev Finds : List ℕ → Option (List ℕ) → Found → Contents → Type 0
-    Finds pk row found c = IsFound (record { pk = pk; named = marker_key ∷ []; range = Some (range_at page.bounds row) }) found c
+  abbrev Finds : List ℕ → Option (List ℕ) → Found → Contents → Type 0
+  Finds pk row found c = IsFound (record { pk = pk; named = marker_key ∷ []; range = Some (range_at page.bounds row) }) found c
 
-    old_read : (pk : List ℕ) (row : Option (List ℕ)) (found : Found) → Finds pk row found p.old → IsLed page.bounds pk row p retired sound 2 (read_lead (is_fair found) First found)
-    old_read pk row found is = subst (λ b. IsLed page.bounds pk row p retired sound 2 (read_lead b First found)) (sym (read_fair _ _ p.old pk (range_at page.bounds row) found sound.forms.0 old_rises is.rows is.more))
-        (first_led page.bounds pk row p retired sound found old_rises is)
+  old_read : (pk : List ℕ) (row : Option (List ℕ)) (found : Found) → IsContents p.old → Finds pk row found p.old → IsLed page.bounds pk row p retired sound 2 (read_lead (is_fair found) First found)
+  old_read pk row found rises is = subst (λ b. IsLed page.bounds pk row p retired sound 2 (read_lead b First found)) (sym (read_fair _ _ p.old pk (range_at page.bounds row) found sound.forms.0 rises is.rows is.more))
+      (first_led page.bounds pk row p retired sound found rises is)
 
-    new_read : (pk : List ℕ) (row : Option (List ℕ)) (half : Half) (found : Found) → (IsLed page.bounds pk row p retired sound 1 (saw_rows half found)) → Finds pk row found p.new → IsLed page.bounds pk row p retired sound 1 (read_lead (is_fair found) half found)
-    new_read pk row half found led is = subst (λ b. IsLed page.bounds pk row p retired sound 1 (read_lead b half found)) (sym (read_fair _ _ p.new pk (range_at page.bounds row) found sound.forms.1 new_rises is.rows is.more)) led
+  new_read : (pk : List ℕ) (row : Option (List ℕ)) (half : Half) (found : Found) → IsContents p.new → IsLed page.bounds pk row p retired sound 1 (saw_rows half found) → Finds pk row found p.new → IsLed page.bounds pk row p retired sound 1 (read_lead (is_fair found) half found)
+  new_read pk row half found rises led is = subst (λ b. IsLed page.bounds pk row p retired sound 1 (read_lead b half found)) (sym (read_fair _ _ p.new pk (range_at page.bounds row) found sound.forms.1 rises is.rows is.more)) led
 
-    old_next : (from : PkFrom) (next : Next) → IsNextPartition from next.pk p.old.rows → next.sealed ≡ p.old.sealed → GapLed from p retired sound 2 (next_lead (is_fair_next next.pk) First next)
-    old_next from next is same = subst (λ b. GapLed from p retired sound 2 (next_lead b First next)) (sym (next_fair _ _ p.old from next.pk sound.forms.0 sound.markers.0 is)) (old_gap from p retired sound next.pk next.sealed is same)
+  old_next : (from : PkFrom) (next : Next) → IsNextPartition from next.pk p.old.rows → next.sealed ≡ p.old.sealed → GapLed from p retired sound 2 (next_lead (is_fair_next next.pk) First next)
+  old_next from next is same = subst (λ b. GapLed from p retired sound 2 (next_lead b First next)) (sym (next_fair _ _ p.old from next.pk sound.forms.0 sound.markers.0 is)) (old_gap from p retired sound next.pk next.sealed is same)
 
-    new_next : (from : PkFrom) (old : Option (List ℕ)) (next : Next) → KnowsClosed p from old → IsNextPartition from next.pk p.new.rows → GapLed from p retired sound 1 (next_lead (is_fair_next next.pk) (Named old) next)
-    new_next from old next closed is = subst (λ b. GapLed from p retired sound 1 (next_lead b (Named old) next)) (sym (next_fair _ _ p.new from next.pk sound.forms.1 sound.markers.1 is)) (new_gap from p retired sound old next.pk closed is)
+  new_next : (from : PkFrom) (old : Option (List ℕ)) (next : Next) → KnowsClosed p from old → IsNextPartition from next.pk p.new.rows → GapLed from p retired sound 1 (next_lead (is_fair_next next.pk) (Named old) next)
+  new_next from old next closed is = subst (λ b. GapLed from p retired sound 1 (next_lead b (Named old) next)) (sym (next_fair _ _ p.new from next.pk sound.forms.1 sound.markers.1 is)) (new_gap from p retired sound old next.pk closed is)
 
 -- ---- a step
 
@@ -229,37 +229,43 @@ new_same p q same is = is ∙ ap (with_new p) same
 abbrev page_at : Page → Place → Half → Page
 page_at page place half = record { filter = page.filter; bounds = page.bounds; room = page.room; rows = page.rows; units = page.units; place = place; half = half }
 
-stepped : (page to : Page) (place : Place) (half : Half) (r : StoreReply) (answer : PageProgress) (p q : Pair) (retired : Bool) → IsPage (page_at page place half) → is_over (page_at page place half) ≡ false → IsSound p → IsContents p.old → IsContents p.new
+stepped : (page to : Page) (place : Place) (half : Half) (r : StoreReply) (answer : PageProgress) (p q : Pair) (retired : Bool) → IsPage (page_at page place half) → is_over (page_at page place half) ≡ false → IsSound p → IsContents (contents_on (side_of half) q)
     → AllHold p retired (page_facts (page_at page place half)) → FitsAsk (asks (page_at page place half)).ask r → PairMeans (asks (page_at page place half)) r p q → Absorbs (page_at page place half) r (Ok answer) to
     → Stepped (page_at page place half) to retired answer p q
-stepped page to (at.Rows pk row) First (reply.Found found) answer p q retired fits going sound a b facts fit m absorbs =
+stepped page to (at.Rows pk row) First (reply.Found found) answer p q retired fits going sound rises facts fit m absorbs =
     let here = page_at page (at.Rows pk row) First in
     subst (λ x. Stepped here to retired answer p x) (sym (old_same p q m.0.0 m.1))
-    (rows_step here fits going p retired sound pk row refl (lead_of (at.Rows pk row) First (reply.Found found)) answer to (old_read here fits going p retired sound a b pk row found m.0.1) (fit_of here fits (reply.Found found) fit) absorbs)
-stepped page to (at.Rows pk row) (Turned old) (reply.Found found) answer p q retired fits going sound a b facts fit m absorbs =
+    (rows_step here fits going p retired sound pk row refl (lead_of (at.Rows pk row) First (reply.Found found)) answer to (old_read here fits going p retired sound pk row found (subst IsContents m.0.0 rises) m.0.1) (fit_of here fits (reply.Found found) fit) absorbs)
+stepped page to (at.Rows pk row) (Turned old) (reply.Found found) answer p q retired fits going sound rises facts fit m absorbs =
     let here = page_at page (at.Rows pk row) (Turned old) in
     subst (λ x. Stepped here to retired answer p x) (sym (new_same p q m.0.0 m.1))
     (rows_step here fits going p retired sound pk row refl (lead_of (at.Rows pk row) (Turned old) (reply.Found found)) answer to
-    (new_read here fits going p retired sound a b pk row (Turned old) found (then_turned here.bounds pk row p retired sound found b m.0.1 old facts) m.0.1) (fit_of here fits (reply.Found found) fit) absorbs)
-stepped page to (at.Rows pk row) Closed (reply.Found found) answer p q retired fits going sound a b facts fit m absorbs =
+    (new_read here fits going p retired sound pk row (Turned old) found (subst IsContents m.0.0 rises) (then_turned here.bounds pk row p retired sound found (subst IsContents m.0.0 rises) m.0.1 old facts) m.0.1) (fit_of here fits (reply.Found found) fit) absorbs)
+stepped page to (at.Rows pk row) Closed (reply.Found found) answer p q retired fits going sound rises facts fit m absorbs =
     let here = page_at page (at.Rows pk row) Closed in
     subst (λ x. Stepped here to retired answer p x) (sym (new_same p q m.0.0 m.1))
     (rows_step here fits going p retired sound pk row refl (lead_of (at.Rows pk row) Closed (reply.Found found)) answer to
-    (new_read here fits going p retired sound a b pk row Closed found (then_closed here.bounds pk row p retired sound found b m.0.1 facts) m.0.1) (fit_of here fits (reply.Found found) fit) absorbs)
-stepped page to (at.Rows pk row) (Named next) (reply.Found found) answer p q retired fits going sound a b facts fit m absorbs = absurd fits.half
-stepped page to (at.Rows pk row) half r answer p q retired fits going sound a b facts fit m absorbs = absurd fit
-stepped page to (at.Parts from) First (reply.Next next) answer p q retired fits going sound a b facts fit m absorbs =
+    (new_read here fits going p retired sound pk row Closed found (subst IsContents m.0.0 rises) (then_closed here.bounds pk row p retired sound found (subst IsContents m.0.0 rises) m.0.1 facts) m.0.1) (fit_of here fits (reply.Found found) fit) absorbs)
+stepped page to (at.Rows pk row) (Named next) (reply.Found found) answer p q retired fits going sound rises facts fit m absorbs = absurd fits.half
+stepped page to (at.Rows pk row) half r answer p q retired fits going sound rises facts fit m absorbs = absurd fit
+stepped page to (at.Parts from) First (reply.Next next) answer p q retired fits going sound rises facts fit m absorbs =
     let here = page_at page (at.Parts from) First in
     subst (λ x. Stepped here to retired answer p x) (sym (old_same p q m.0.0 m.1))
-    (gap_step here fits going p retired sound from refl (lead_of (at.Parts from) First (reply.Next next)) answer to (old_next here fits going p retired sound a b from next m.0.1 m.0.2) (fit_of here fits (reply.Next next) fit) absorbs)
-stepped page to (at.Parts from) (Named old) (reply.Next next) answer p q retired fits going sound a b facts fit m absorbs =
+    (gap_step here fits going p retired sound from refl (lead_of (at.Parts from) First (reply.Next next)) answer to (old_next here fits going p retired sound from next m.0.1 m.0.2) (fit_of here fits (reply.Next next) fit) absorbs)
+stepped page to (at.Parts from) (Named old) (reply.Next next) answer p q retired fits going sound rises facts fit m absorbs =
     let here = page_at page (at.Parts from) (Named old) in
     subst (λ x. Stepped here to retired answer p x) (sym (new_same p q m.0.0 m.1))
-    (gap_step here fits going p retired sound from refl (lead_of (at.Parts from) (Named old) (reply.Next next)) answer to (new_next here fits going p retired sound a b from old next facts.0 m.0.1) (fit_of here fits (reply.Next next) fit) absorbs)
-stepped page to (at.Parts from) (Turned old) (reply.Next next) answer p q retired fits going sound a b facts fit m absorbs = absurd fits.half
-stepped page to (at.Parts from) Closed (reply.Next next) answer p q retired fits going sound a b facts fit m absorbs = absurd fits.half
-stepped page to (at.Parts from) half r answer p q retired fits going sound a b facts fit m absorbs = absurd fit
-stepped page to at.End half r answer p q retired fits going sound a b facts fit m absorbs = absurd (let x = going in cc)
+    (gap_step here fits going p retired sound from refl (lead_of (at.Parts from) (Named old) (reply.Next next)) answer to (new_next here fits going p retired sound from old next facts.0 m.0.1) (fit_of here fits (reply.Next next) fit) absorbs)
+stepped page to (at.Parts from) (Turned old) (reply.Next next) answer p q retired fits going sound rises facts fit m absorbs = absurd fits.half
+stepped page to (at.Parts from) Closed (reply.Next next) answer p q retired fits going sound rises facts fit m absorbs = absurd fits.half
+stepped page to (at.Parts from) half r answer p q retired fits going sound rises facts fit m absorbs = absurd fit
+stepped page to at.End half r answer p q retired fits going sound rises facts fit m absorbs = absurd (let x = going in cc)
+
+-- the store that is asked
+side_asked : (bounds : Bounds) (place : Place) (half : Half) → (asks_at bounds place (side_of half)).side ≡ side_of half
+side_asked bounds (at.Rows pk row) half = refl
+side_asked bounds (at.Parts from) half = refl
+side_asked bounds at.End half = refl
 
 -- what a page knows speaks of no epoch
 half_plain : (page : Page) (place : Place) (half : Half) → AllPlain (half_facts page.bounds place half)
@@ -274,10 +280,10 @@ half_plain page (at.Parts from) (Named next) = (tt, tt)
 half_plain page at.End half = tt
 
 -- each step of a page is a step of an actor
-pub scan_law : (page to : Page) (a : StoreAsk) (r : StoreReply) (answer : PageProgress) (p q : Pair) (retired : Bool) → IsPage page → is_over page ≡ false → IsSound p → IsContents p.old → IsContents p.new
+pub scan_law : (page to : Page) (a : StoreAsk) (r : StoreReply) (answer : PageProgress) (p q : Pair) (retired : Bool) → IsPage page → is_over page ≡ false → IsSound p → IsContents (contents_on a.side q)
     → AllHold p retired (page_facts page) → a ≡ asks page → FitsAsk a.ask r → PairMeans a r p q → Absorbs page r (Ok answer) to → PageStep page to retired answer p q
-scan_law page to a r answer p q retired fits going sound old_rises new_rises facts asked fit means absorbs =
-    let step = stepped page to page.place page.half r answer p q retired fits going sound old_rises new_rises facts (subst (λ x. FitsAsk x.ask r) asked fit) (subst (λ x. PairMeans x r p q) asked means) absorbs in
+scan_law page to a r answer p q retired fits going sound rises facts asked fit means absorbs =
+    let step = stepped page to page.place page.half r answer p q retired fits going sound (subst (λ s. IsContents (contents_on s q)) (ap (λ (x : StoreAsk). x.side) asked ∙ side_asked page.bounds page.place page.half) rises) facts (subst (λ x. FitsAsk x.ask r) asked fit) (subst (λ x. PairMeans x r p q) asked means) absorbs in
     record {
       sound = step.sound;
       grows = step.grows (page_facts page);

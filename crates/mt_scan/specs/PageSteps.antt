@@ -1,6 +1,9 @@
 -- What a step of a page does to a sound pair of stores.
 use Rattle.std.specs.Prelude.{◌≡◌, ℕ, ◌<◌, Bool, List}
 use Rattle.mt_model.specs.declared.entity.Entity.{Entity}
+use Rattle.mt_chain.specs.declared.ask.Side.{Side}
+use Rattle.mt_chain.specs.declared.ask.Side.TheVariants.{Old, New}
+use Rattle.mt_chain.specs.StoreCall.{Contents}
 use Rattle.mt_meta.specs.Logical.{Pair}
 use Rattle.mt_meta.specs.Steps.{logical_table, ActorStep}
 use Rattle.mt_scan.specs.declared.unit.Unit.{Unit as PageUnit}
@@ -10,6 +13,11 @@ use Rattle.mt_scan.specs.declared.saw.Half.{Half}
 use Rattle.mt_scan.specs.declared.saw.Half.TheVariants.{First}
 use Rattle.mt_scan.specs.Units.{IsNext, Delivers}
 use Rattle.mt_scan.specs.Pages.{Page, with_half, after, page_facts}
+
+-- what that one of two stores holds
+abbrev pub contents_on : Side → Pair → Contents
+contents_on Old p = p.old
+contents_on New p = p.new
 
 -- how many more calls a unit takes at most
 abbrev pub calls_left : Half → ℕ

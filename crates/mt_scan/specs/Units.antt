@@ -1,7 +1,8 @@
 -- Units of pages, the places between them, and what a unit says of a table.
-use Rattle.std.specs.Prelude.{◌≡◌, ℕ, true, List, Option, Some, None, IfSome, if◌then◌else◌}
+use Rattle.std.specs.Prelude.{◌≡◌, ℕ, true, List, Option, Some, None, IfSome, option_map, if◌then◌else◌}
 use Rattle.mt_model.specs.declared.entity.Entity.{Entity}
 use Rattle.mt_filter.specs.declared.filter.Filter.{Filter}
+use Rattle.mt_filter.specs.Tree.{tree_of}
 use Rattle.mt_match.specs.declared.bounds.Bounds.{Bounds}
 use Rattle.mt_chain.specs.declared.query.RkFrom.{RkFrom}
 use Rattle.mt_chain.specs.declared.query.RkFrom.TheVariants.{Start, After}
@@ -26,6 +27,14 @@ use Rattle.mt_scan.specs.declared.unit.Token.TheVariants as token
 abbrev pub entry_of : Option Filter → PageUnit → What
 entry_of filter (Scan pk from upto) = what.Scan pk from upto filter
 entry_of filter (Gap from to) = what.Gap from to
+
+-- equal filters have the same tree
+abbrev pub IsSameFilter : Option Filter → Option Filter → Type 0
+IsSameFilter a b = option_map tree_of a ≡ option_map tree_of b
+
+-- the entry of a unit, with an equal filter
+abbrev pub IsEntryOf : PageUnit → Option Filter → What → Type 0
+IsEntryOf unit filter w = (kept : Option Filter) × IsSameFilter kept filter × (w ≡ entry_of kept unit)
 
 -- what a unit says of the table: a gap that no row lies in it
 abbrev pub IsTrueUnit : PageUnit → Table → Type 0

@@ -1,8 +1,9 @@
 //! A page of a table.
-ghost use Rattle.std.specs.Prelude.{◌≡◌, ◌≤◌, IfOk, IfSome, true, false, option_copied};
+ghost use Rattle.std.specs.Prelude.{◌≡◌, ◌≤◌, ◌^◌, ◌-◌, min, IfOk, IfSome, true, false, option_copied};
 ghost use Rattle.mt_chain.specs.Asks.{CanAsk, FitsAsk};
+ghost use Rattle.mt_history.specs.Weight.{need_of_page};
 ghost use Rattle.mt_scan.specs.Units.{place_of, token_of};
-ghost use Rattle.mt_scan.specs.Pages.{AreBounds, IsKeyedToken, place_in, begun, is_over_at, is_over, side_of, asks, gap_from, lead_of, IsScanDone, IsGapDone, told, Sees, Absorbs};
+ghost use Rattle.mt_scan.specs.Pages.{AreBounds, IsKeyedToken, place_in, begun, is_over_at, is_over, side_of, asks, gap_from, lead_of, IsScanDone, IsGapDone, told, Sees, Absorbs, IsPage};
 ghost use Rattle.mt_chain.specs.declared.ask.StoreReply.TheVariants as reply;
 
 use crate::asks::{copy_from, from_row, next_partition, read_rows};
@@ -11,7 +12,8 @@ use crate::saw::{Half, SeenNext, SeenRows, see_next, see_rows};
 use crate::unit::{Page, PageProgress, Place, Token, Unit, after_unit, is_end, place_of, token_of};
 use mt_chain::{Found, Next, PkFrom, Side, StoreAsk, StoreReply};
 use mt_filter::Filter;
-use mt_match::Bounds;
+use mt_history::page_need;
+use mt_match::{Bounds, key_bounds};
 use mt_model::{Entities, Entity, NoMemory, Text};
 use std::alloc::Global;
 use std::marker::Model;
@@ -47,6 +49,26 @@ impl Model for PageCall {
     ghost view = { λ c. record { filter = c.filter; bounds = c.bounds; room = c.room; rows = c.rows.items; units = c.units; place = place_in c.bounds c.place; half = c.half } };
 
     ghost invariant = { λ c. IsPage (record { filter = c.filter; bounds = c.bounds; room = c.room; rows = c.rows.items; units = c.units; place = place_in c.bounds c.place; half = c.half }) };
+}
+
+/// The bounds of a page of the rows that a filter matches: those that `key_bounds` gives, or without a
+/// filter the empty texts, without upper ones. The one error is want of memory.
+pub fn page_bounds(alloc: Global, filter: &Option<Filter>) -> Result<Bounds, NoMemory>
+    ensures { IfOk result (AreBounds filter.now) }
+{
+    match filter {
+        Some(filter) => key_bounds(alloc, filter),
+        None => {
+            let pk_low = Text::of(alloc, "")?;
+            let rk_low = Text::of(alloc, "")?;
+            Ok(Bounds {
+                pk_low,
+                pk_high: None,
+                rk_low,
+                rk_high: None,
+            })
+        }
+    }
 }
 
 /// What comes of a reply.
@@ -188,6 +210,15 @@ impl PageCall {
         ensures { option_copied result ≡ self.now.filter }
     {
         self.filter.as_ref()
+    }
+
+    /// What each turn of the page needs of the room in a history, in bytes, or the greatest number: 64,
+    /// the size of the filter, and 4,096 for the keys of a unit.
+    pub fn need(&self) -> u64
+        ensures value { result ≡ min (2 ^ 64 - 1) (need_of_page self.now.filter) }
+        ensures valid { IsPage self.now }
+    {
+        page_need(&self.filter)
     }
 
     /// Whether the page ends here: without room, at 256 units, or at the end of the bounds. No call is

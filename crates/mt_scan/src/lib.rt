@@ -8,6 +8,6 @@ mod keys;
 mod saw;
 mod unit;
 
-pub use call::PageCall;
+pub use call::{PageCall, page_bounds};
 pub use saw::Half;
 pub use unit::{Page, PageProgress, Place, Token, Unit};

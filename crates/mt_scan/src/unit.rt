@@ -1,10 +1,12 @@
 //! Units of pages, and the places between them.
-ghost use Rattle.std.specs.Prelude.{◌≡◌, IfOk, Some};
-ghost use Rattle.mt_scan.specs.Units.{place_of, token_of, after_scan, after_gap, after_unit};
+ghost use Rattle.std.specs.Prelude.{◌≡◌, IfOk, Some, option_copied};
+ghost use Rattle.mt_scan.specs.Units.{IsSameFilter, IsEntryOf, place_of, token_of, after_scan, after_gap, after_unit};
 ghost use Rattle.mt_scan.specs.Pages.{is_end};
 ghost use Rattle.mt_scan.specs.declared.unit.Place.TheVariants as at;
 
 use mt_chain::{PkFrom, RkFrom, is_upto};
+use mt_filter::Filter;
+use mt_history::What;
 use mt_match::Bounds;
 use mt_model::{Entities, Key, NoMemory, Text};
 use std::alloc::Global;
@@ -25,6 +27,36 @@ pub enum Unit {
         from: PkFrom,
         to: Option<Text>,
     },
+}
+
+/// An equal filter, where there is one. The one error is want of memory.
+fn copy_filter(alloc: Global, filter: Option<&Filter>) -> Result<Option<Filter>, NoMemory>
+    ensures { IfOk result (λ kept. IsSameFilter kept (option_copied filter.entry)) }
+{
+    match filter {
+        None => Ok(None),
+        Some(filter) => Ok(Some(filter.copy(alloc)?)),
+    }
+}
+
+impl Unit {
+    /// The entry of the unit in a history: a scan has an equal filter. The one error is want of memory.
+    pub fn into_entry(self, alloc: Global, filter: Option<&Filter>) -> Result<What, NoMemory>
+        ensures { IfOk result (IsEntryOf self (option_copied filter.entry)) }
+    {
+        match self {
+            Unit::Scan { pk, from, upto } => {
+                let filter = copy_filter(alloc, filter)?;
+                Ok(What::Scan {
+                    pk,
+                    from,
+                    upto,
+                    filter,
+                })
+            }
+            Unit::Gap { from, to } => Ok(What::Gap { from, to }),
+        }
+    }
 }
 
 /// What a step of a page came to.
