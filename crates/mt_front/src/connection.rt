@@ -152,6 +152,7 @@ fn try_op<K: Keeper>(alloc: Global, world: &mut World<K>, op: Op) -> Result<Outc
         Ok(Answer::Written(tags)) => Ok(Outcome::Done(only_tag(&tags))),
         Ok(Answer::Refused(refusal)) => Ok(Outcome::Refused(refusal)),
         Ok(Answer::Rows(_)) => unreachable!(),
+        Ok(Answer::Page(_)) => unreachable!(),
         Err(TurnFault::StoreFault) => Ok(Outcome::Fault),
         Err(TurnFault::HistoryFull) => Ok(Outcome::Full),
         Err(TurnFault::NoMemory) => Err(NoMemory),

@@ -29,7 +29,7 @@ use Rattle.mt_world.specs.declared.actor.ClientCall.TheVariants as client
 use Rattle.mt_world.specs.declared.actor.Actor.{Actor}
 use Rattle.mt_world.specs.declared.actor.Actor.TheVariants.{Client}
 use Rattle.mt_world.specs.declared.actor.Answer.{Answer}
-use Rattle.mt_world.specs.declared.actor.Answer.TheVariants.{Written, Refused, Rows}
+use Rattle.mt_world.specs.declared.actor.Answer.TheVariants.{Written, Refused, Rows, Page}
 use Rattle.mt_world.specs.declared.actor.Progress.{Progress}
 use Rattle.mt_world.specs.declared.actor.Progress.TheVariants.{More, Done}
 use Rattle.mt_world.specs.declared.actor.TurnFault.{TurnFault}
@@ -42,6 +42,7 @@ use Rattle.mt_world.specs.WholeCalls.{Mark, MarkedTurn, last_turn, Finishes, End
 use Rattle.mt_world.proofs.PairLaws.{for_pair, at_pair, same_pair, before, failed_rose}
 use Rattle.mt_world.proofs.EntryLaws.{window_stays}
 use Rattle.mt_world.proofs.TurnLaws.{moved}
+use Rattle.mt_world.proofs.PageFinish.{told_is, page_goes_on, still_open, PageStands, page_begins, page_on, page_few}
 
 -- ---- a turn that goes on
 
@@ -116,6 +117,7 @@ pub can_go_on : (w w' : WorldState) (caller : ℕ) (a a' : Actor) (entry : Optio
 can_go_on w w' caller (Client client.Ended) a' entry can t = absurd can
 can_go_on w w' caller (Client (client.Batch call)) a' entry can t = subst CanStep (sym (goes_on w w' call entry a' t.moves).after) tt
 can_go_on w w' caller (Client (client.Query call)) a' entry can t = subst CanStep (sym (query_goes_on w w' call entry a' t.moves).after) tt
+can_go_on w w' caller (Client (client.Page call)) a' entry can t = (let g = page_goes_on w w' call entry a' t.moves in subst CanStep (sym g.after) (still_open call w w' entry a' can g))
 
 -- ---- how often a call may go on
 
@@ -132,19 +134,17 @@ fewer_left w w' caller a a' entry t = fewer w.old_store w.new_store w'.old_store
 
 -- ---- a call that no other comes between
 
-told_is : (o : Option Contents) → is_some o ≡ true → (c : Contents) × (o ≡ Some c)
-told_is None e = absurd cc
-told_is (Some c) e = (c, refl)
-
 -- where a call is after as many turns: it has at least as many behind it at its place, and stands
 abbrev pub StandsAt : ℕ → WorldState → Actor → Type 0
 StandsAt n w (Client (client.Batch call)) = (n ≤ turns_before call.place) × ForPair w (λ p. StandsOn p call.batch call.place)
 StandsAt n w (Client (client.Query call)) = (n ≤ alone.turns_before call.place) × ForPair w (λ p. alone.StandsOn p call.pk call.place)
+StandsAt n w (Client (client.Page call)) = PageStands n w call
 StandsAt n w (Client client.Ended) = ⊥
 
 begins : (w : WorldState) (a : Actor) → IsAtBegin a → StandsAt 0 w a
 begins w (Client (client.Batch call)) begin = (omega arith, for_pair w (λ p. StandsOn p call.batch call.place) (λ a b ea eb. subst (StandsOn (pair_of w a b) call.batch) (sym begin) tt))
 begins w (Client (client.Query call)) begin = (omega arith, for_pair w (λ p. alone.StandsOn p call.pk call.place) (λ a b ea eb. subst (alone.StandsOn (pair_of w a b) call.pk) (sym begin) tt))
+begins w (Client (client.Page call)) begin = page_begins w call begin.0 begin.1
 begins w (Client client.Ended) begin = absurd begin
 
 batch_on : (n : ℕ) (w w' : WorldState) (call : Call) (entry : Option NewEntry) (a' : Actor) → IsWorld w → ActorFits (Client (client.Batch call)) → StandsAt n w (Client (client.Batch call)) → IsSameWorld w w' → GoesOn call w w' entry a' → Tells w' → StandsAt (suc n) w' a'
@@ -192,18 +192,21 @@ query_on n w w' call entry a' world at same g tells = subst (StandsAt (suc n) w'
 pub stands_on : (n : ℕ) (w w' : WorldState) (caller : ℕ) (a a' : Actor) (entry : Option NewEntry) → IsWorld w → StandsAt n w a → Turns w caller a (Ok More) entry w' a' → Tells w' → StandsAt (suc n) w' a'
 stands_on n w w' caller (Client (client.Batch call)) a' entry world at t tells = batch_on n w w' call entry a' world t.fits at t.same (goes_on w w' call entry a' t.moves) tells
 stands_on n w w' caller (Client (client.Query call)) a' entry world at t tells = query_on n w w' call entry a' world at t.same (query_goes_on w w' call entry a' t.moves) tells
+stands_on n w w' caller (Client (client.Page call)) a' entry world at t tells = (let g = page_goes_on w w' call entry a' t.moves in subst (StandsAt (suc n) w') (sym g.after) (page_on n w w' caller call a' entry world at t g tells))
 stands_on n w w' caller (Client client.Ended) a' entry world at t tells = absurd at
 
 -- one turn more is within the bound
 stands_few : (n : ℕ) (w : WorldState) (a : Actor) → StandsAt n w a → n + 1 ≤ turns_at_most a
 stands_few n w (Client (client.Batch call)) h = (let so_far = h.0 in let few = few_before call.place in omega (arith, so_far, few))
 stands_few n w (Client (client.Query call)) h = (let so_far = h.0 in let few = alone_laws.few_before call.place in omega (arith, so_far, few))
+stands_few n w (Client (client.Page call)) h = page_few n w call h
 stands_few n w (Client client.Ended) h = absurd h
 
 -- which stays the same
 same_bound : (w w' : WorldState) (caller : ℕ) (a a' : Actor) (entry : Option NewEntry) → Turns w caller a (Ok More) entry w' a' → turns_at_most a' ≡ turns_at_most a
 same_bound w w' caller (Client (client.Batch call)) a' entry t = ap turns_at_most (goes_on w w' call entry a' t.moves).after
 same_bound w w' caller (Client (client.Query call)) a' entry t = ap turns_at_most (query_goes_on w w' call entry a' t.moves).after
+same_bound w w' caller (Client (client.Page call)) a' entry t = ap turns_at_most (page_goes_on w w' call entry a' t.moves).after
 same_bound w w' caller (Client client.Ended) a' entry t = absurd t.moves.2
 
 -- ---- the turns of a call so far
@@ -240,22 +243,22 @@ went_ends w m w' caller a b b' r entry g t = record {
 
 -- ---- what a whole call does
 
-rose_from : (w m w' : ℕ) → w ≤ m → Rose m w' → Rose w w'
+pub rose_from : (w m w' : ℕ) → w ≤ m → Rose m w' → Rose w w'
 rose_from w m w' le rose = omega (arith, le, rose)
 
-calls_grow : (c c' : Stage) (a a' : Actor) (r : Result Progress TurnFault) (entry : Option NewEntry) → Moves c a r entry c' a' → c.calls ≤ c'.calls
+pub calls_grow : (c c' : Stage) (a a' : Actor) (r : Result Progress TurnFault) (entry : Option NewEntry) → Moves c a r entry c' a' → c.calls ≤ c'.calls
 calls_grow c c' a a' (Ok progress) entry m = m.3.grew
 calls_grow c c' a a' (Err StoreFault) entry m = m.2.grew
 calls_grow c c' a a' (Err HistoryFull) entry m = (let e = m.0.calls in omega (arith, e))
 calls_grow c c' a a' (Err NoMemory) entry m = elim m.0 as (λ _. c.calls ≤ c'.calls) [ inl none ↦ (let e = none.calls in omega (arith, e)) | inr vain ↦ vain.call.grew ]
 
-full_last : (r : Result Answer TurnFault) → is_full (last_turn r) ≡ is_full r
+pub full_last : (r : Result Answer TurnFault) → is_full (last_turn r) ≡ is_full r
 full_last (Ok answer) = refl
 full_last (Err StoreFault) = refl
 full_last (Err HistoryFull) = refl
 full_last (Err NoMemory) = refl
 
-last_cause : (w w' : WorldState) (caller : ℕ) (a a' : Actor) (r : Result Answer TurnFault) (entry : Option NewEntry) → Turns w caller a (last_turn r) entry w' a' → r ≡ Err StoreFault → EitherRose w w'
+pub last_cause : (w w' : WorldState) (caller : ℕ) (a a' : Actor) (r : Result Answer TurnFault) (entry : Option NewEntry) → Turns w caller a (last_turn r) entry w' a' → r ≡ Err StoreFault → EitherRose w w'
 last_cause w w' caller a a' r entry t is =
     let m = (subst (λ x. Turns w caller a (last_turn x) entry w' a') is t).moves in
     failed_rose w w' m.0.side m.0.ask m.2.on
@@ -271,9 +274,11 @@ batch_ended ops to batch.More answer same is = absurd cc
 batch_ended ops to (batch.Written tags) (Written given) same is = (let e : given ≡ tags = cc in record { is = ap (λ t. batch_entry to.batch (Ok (Written t))) (sym e) ∙ ap (λ o. batch_entry o (Ok (Written given))) same; answered = refl })
 batch_ended ops to (batch.Written tags) (Refused refusal) same is = absurd cc
 batch_ended ops to (batch.Written tags) (Rows rows) same is = absurd cc
+batch_ended ops to (batch.Written tags) (Page whole) same is = absurd cc
 batch_ended ops to (batch.Refused refusal) (Refused told) same is = (let e : told ≡ refusal = cc in record { is = ap (λ t. batch_entry to.batch (Ok (Refused t))) (sym e) ∙ ap (λ o. batch_entry o (Ok (Refused told))) same; answered = refl })
 batch_ended ops to (batch.Refused refusal) (Written given) same is = absurd cc
 batch_ended ops to (batch.Refused refusal) (Rows rows) same is = absurd cc
+batch_ended ops to (batch.Refused refusal) (Page whole) same is = absurd cc
 
 batch_last : (c c' : Stage) (call : Call) (a' : Actor) (r : Result Answer TurnFault) (entry : Option NewEntry) → Moves c (Client (client.Batch call)) (last_turn r) entry c' a' → IsEntryOf r (batch_entry call.batch r) entry
 batch_last c c' call a' (Ok answer) entry m =
@@ -290,6 +295,7 @@ query_ended pk test to (query.Rows rows) (Rows given) same whole is =
     (let e : given ≡ rows = cc in record { is = ap (λ t. query_entry to.pk to.filter (Ok (Rows t))) (sym e) ∙ (λ i. query_entry (same i) (whole i) (Ok (Rows given))); answered = refl })
 query_ended pk test to (query.Rows rows) (Written given) same whole is = absurd cc
 query_ended pk test to (query.Rows rows) (Refused refusal) same whole is = absurd cc
+query_ended pk test to (query.Rows rows) (Page page) same whole is = absurd cc
 
 query_last : (c c' : Stage) (call : queries.Call) (a' : Actor) (r : Result Answer TurnFault) (entry : Option NewEntry) → Moves c (Client (client.Query call)) (last_turn r) entry c' a' → IsEntryOf r (query_entry call.pk call.filter r) entry
 query_last c c' call a' (Ok answer) entry m =
@@ -299,11 +305,11 @@ query_last c c' call a' (Err StoreFault) entry m = record { is = m.3; answered =
 query_last c c' call a' (Err HistoryFull) entry m = record { is = m.1; answered = tt }
 query_last c c' call a' (Err NoMemory) entry m = record { is = m.1; answered = tt }
 
-mark_is : (m : Mark) (place : ℕ) (entry : Option NewEntry) → m.place ≡ place → m.entry ≡ entry → m ≡ record { place = place; entry = entry }
+pub mark_is : (m : Mark) (place : ℕ) (entry : Option NewEntry) → m.place ≡ place → m.entry ≡ entry → m ≡ record { place = place; entry = entry }
 mark_is m place entry at is i = record { place = at i; entry = is i }
 
 -- the last turn alone
-last_answers : (m : Mark) (w w' : WorldState) (caller : ℕ) (a a' : Actor) (want : Option NewEntry) (r : Result Answer TurnFault) → retired_by a (last_turn r) w.retired ≡ w.retired → MarkedTurn m w caller a (last_turn r) w' a' → IsEntryOf r want m.entry → CallAnswers w caller (need_of a) want (m ∷ []) r w'
+pub last_answers : (m : Mark) (w w' : WorldState) (caller : ℕ) (a a' : Actor) (want : Option NewEntry) (r : Result Answer TurnFault) → retired_by a (last_turn r) w.retired ≡ w.retired → MarkedTurn m w caller a (last_turn r) w' a' → IsEntryOf r want m.entry → CallAnswers w caller (need_of a) want (m ∷ []) r w'
 last_answers m w w' caller a a' want r retired marked of =
     let t = marked.turn in
     let k = moved (stage_of w) (stage_of w') a a' (last_turn r) m.entry t.moves in
@@ -326,7 +332,7 @@ replies_from : (w m w' : WorldState) (entry : Option NewEntry) → table_now m �
 replies_from w m w' None table h = tt
 replies_from w m w' (Some e) table h = subst (λ t. ForPair w' (λ p. Replies e.what t e.reply)) table h
 
-then_same : (w m w' : WorldState) → IsSameWorld w m → IsSameWorld m w' → IsSameWorld w w'
+pub then_same : (w m w' : WorldState) → IsSameWorld w m → IsSameWorld m w' → IsSameWorld w w'
 then_same w m w' s t = record {
   old_number = t.old_number ∙ s.old_number;
   new_number = t.new_number ∙ s.new_number;

@@ -2,7 +2,13 @@ pub mod LogLaws
 pub mod StageLaws
 pub mod PairLaws
 pub mod EntryLaws
+pub mod PageSteps
+pub mod PageEntries
 pub mod TurnLaws
 pub mod OpenLaws
+pub mod PageFinish
 pub mod FinishLaws
+pub mod PageAnswerLaws
 pub mod ReplayLaws
+pub mod OpenPageLaws
+pub mod Theorems

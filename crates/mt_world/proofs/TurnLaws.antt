@@ -10,11 +10,13 @@ use Rattle.mt_chain.specs.declared.ask.StoreReply.{StoreReply}
 use Rattle.mt_chain.specs.declared.ask.CallFault.{CallFault}
 use Rattle.mt_chain.specs.declared.ask.CallFault.TheVariants as call_fault
 use Rattle.mt_chain.specs.Rows.{are_rising}
-use Rattle.mt_chain.specs.StoreCall.{Contents}
+use Rattle.mt_chain.specs.StoreCall.{Contents, IsContents}
+use Rattle.mt_chain.specs.Asks.{FitsAsk}
 use Rattle.mt_chain.specs.Store.{Store, Rose, Same}
 use Rattle.mt_chain.specs.Table.{rows_of}
 use Rattle.mt_history.specs.Kept.{has_room}
 use Rattle.mt_history.specs.Replies.{Replies, refusal_reply}
+use Rattle.mt_history.specs.Legal.{IsTrueAtEnd}
 use Rattle.mt_meta.specs.Logical.{Pair}
 use Rattle.mt_meta.specs.Sound.{IsSound}
 use Rattle.mt_meta.specs.declared.fact.Fact.{Fact}
@@ -32,19 +34,21 @@ use Rattle.mt_query_plan.specs.declared.call.QueryProgress.TheVariants as query
 use Rattle.mt_query_plan.specs.Queries as queries
 use Rattle.mt_query_plan.specs.QuerySteps as query_steps
 use Rattle.mt_query_plan.proofs.QueryLaw.{query_law}
+use Rattle.mt_scan.specs.PageSteps.{contents_on}
 use Rattle.mt_world.specs.declared.actor.ClientCall.TheVariants as client
 use Rattle.mt_world.specs.declared.actor.Actor.{Actor}
 use Rattle.mt_world.specs.declared.actor.Actor.TheVariants.{Client}
 use Rattle.mt_world.specs.declared.actor.Progress.{Progress}
 use Rattle.mt_world.specs.declared.actor.TurnFault.{TurnFault}
 use Rattle.mt_world.specs.declared.actor.TurnFault.TheVariants.{StoreFault, HistoryFull, NoMemory}
-use Rattle.mt_world.specs.Worlds.{WorldState, pair_of, ForPair, Tells, IsTrueOf, AreTrueOf, KeepsApart, table_now, next_number, number_due, faults_in, entry_of, IsReplayed, AreCounted, IsWorld}
+use Rattle.mt_world.specs.Worlds.{WorldState, pair_of, ForPair, Tells, IsTrueOf, AreTrueOf, KeepsApart, window_of, table_now, next_number, number_due, faults_in, entry_of, IsReplayed, AreCounted, IsWorld}
 use Rattle.mt_world.specs.Moves.{NewEntry, Move, BatchMoves, batch_move, QueryMoves, query_move, ActorFits, ActorAsks, ActorMoves, actor_facts, need_of, after_fault, fault_entry, retired_by}
 use Rattle.mt_world.specs.Logs.{raised, Adds, faults_after}
-use Rattle.mt_world.specs.Turns.{Stage, log_of, stage_of, CallsOn, OneCall, NoCall, CalledInVain, Moves, IsCalledOn, RiseTogether, TakesTurn, TakesSomeTurn, RepliesAt, Knows, IsSameWorld, Turns, Turned}
+use Rattle.mt_world.specs.Turns.{Stage, log_of, stage_of, CallsOn, OneCall, NoCall, CalledInVain, Moves, IsCalledOn, RiseTogether, TakesTurn, TakesSomeTurn, RepliesAt, SaysAt, Knows, IsSameWorld, Turns, Turned}
 use Rattle.mt_world.proofs.PairLaws.{told_before, for_pair, at_pair, same_pair, IsQuiet, quiet_tells, Before, before, called_tells, failed_quiet, failed_rose, IsCalled, called, not_called, stays_same}
 use Rattle.mt_world.proofs.LogLaws.{due_step, counted_with, room_few}
-use Rattle.mt_world.proofs.EntryLaws.{EntryDoes, replay_on, replies_same, counts_on, counts_rise}
+use Rattle.mt_world.proofs.PageSteps.{page_step, page_no_fault}
+use Rattle.mt_world.proofs.EntryLaws.{EntryDoes, replay_on, replies_same, says_true, counts_on, counts_rise}
 
 -- ---- the step of each actor, by the law of its machine
 
@@ -124,11 +128,12 @@ query_step call ask answer move p q retired asks means moves sound knows = subst
   }
 
 -- each kind of actor has its line here
-pub actor_step : (a : Actor) (ask : StoreAsk) (answer : StoreReply) (move : Move) (p q : Pair) (retired : Bool) → ActorFits a → ActorAsks a ask → PairMeans ask answer p q → ActorMoves a answer move
+pub actor_step : (a : Actor) (ask : StoreAsk) (answer : StoreReply) (move : Move) (p q : Pair) (retired : Bool) → FitsAsk ask.ask answer → IsContents (contents_on ask.side q) → ActorFits a → ActorAsks a ask → PairMeans ask answer p q → ActorMoves a answer move
     → IsSound p → AllHold p retired (actor_facts a) → ActorSteps a retired move p q
-actor_step (Client (client.Batch call)) ask answer move p q retired fits asks means moves sound knows = batch_step call ask answer move p q retired fits asks means moves sound knows
-actor_step (Client (client.Query call)) ask answer move p q retired fits asks means moves sound knows = query_step call ask answer move p q retired asks means moves sound knows
-actor_step (Client client.Ended) ask answer move p q retired fits asks means moves sound knows = absurd asks
+actor_step (Client (client.Batch call)) ask answer move p q retired fit rises fits asks means moves sound knows = batch_step call ask answer move p q retired fits asks means moves sound knows
+actor_step (Client (client.Query call)) ask answer move p q retired fit rises fits asks means moves sound knows = query_step call ask answer move p q retired asks means moves sound knows
+actor_step (Client (client.Page call)) ask answer move p q retired fit rises fits asks means moves sound knows = page_step call ask answer move p q retired fit rises fits asks means moves sound knows
+actor_step (Client client.Ended) ask answer move p q retired fit rises fits asks means moves sound knows = absurd asks
 
 -- a turn that comes to nothing leaves an actor that knows nothing more than before, and the world as retired as it was
 fault_knows : (a : Actor) (p : Pair) (retired : Bool) → AllHold p retired (actor_facts a) → AllHold p retired (actor_facts (after_fault a))
@@ -256,12 +261,17 @@ pub record KeptAndTurned (w : WorldState) (caller : ℕ) (a : Actor) (r : Result
 
 -- what is known of two told pairs, before the turn and after it
 pub record ToldStep (w w' : WorldState) (a a' : Actor) (entry : Option NewEntry) (p q : Pair) : Type 0 where
+  pub below : p.old_number < p.new_number
   pub replayed : IsReplayed w p
   pub step : ActorStep (actor_facts a) (actor_facts a') w.retired w'.retired (EntryDoes entry) p q
 
 reply_at : (w : WorldState) (entry : Option NewEntry) (w' : WorldState) → ((e : NewEntry) → entry ≡ Some e → ForPair w' (λ p. Replies e.what (table_now w) e.reply)) → RepliesAt w entry w'
 reply_at w None w' h = tt
 reply_at w (Some e) w' h = h e refl
+
+says_at : (w : WorldState) (entry : Option NewEntry) (w' : WorldState) → ((e : NewEntry) → entry ≡ Some e → ForPair w' (λ p. IsTrueAtEnd (window_of w) e.what)) → SaysAt w entry w'
+says_at w None w' h = tt
+says_at w (Some e) w' h = h e refl
 
 stepped_turn : (w w' : WorldState) (caller : ℕ) (a a' : Actor) (r : Result Progress TurnFault) (entry : Option NewEntry) → IsWorld w → IsFramed w a r w' → (Tells w' → Tells w) → AreCounted w'
     → TakesTurn (stage_of w) caller a r entry (stage_of w') a'
@@ -279,6 +289,7 @@ stepped_turn w w' caller a a' r entry world frame tells counted takes steps = re
     calls = rises (stage_of w) (stage_of w') a a' r entry takes.moves;
     adds = takes.adds;
     replies = reply_at w entry w' replies;
+    says = says_at w entry w' says;
     knows = by_step (λ p. AreTrueOf w' p (actor_facts a')) (λ p q t. t.step.knows);
     keeps = keeps;
   };
@@ -297,6 +308,9 @@ stepped_turn w w' caller a a' r entry world frame tells counted takes steps = re
   replies : (e : NewEntry) → entry ≡ Some e → ForPair w' (λ p. Replies e.what (table_now w) e.reply)
   replies e is = by_step (λ p. Replies e.what (table_now w) e.reply) (λ p q t. (let d = subst (λ x. EntryDoes x p q) is t.step.does in replies_same e.what (logical_table p) (table_now w) e.reply t.replayed.table d.1))
 
+  says : (e : NewEntry) → entry ≡ Some e → ForPair w' (λ p. IsTrueAtEnd (window_of w) e.what)
+  says e is = by_step (λ p. IsTrueAtEnd (window_of w) e.what) (λ p q t. (let d = subst (λ x. EntryDoes x p q) is t.step.does in says_true w e.what p q t.below t.replayed d.0))
+
   keeps : KeepsApart w (actor_facts a) w' (actor_facts a')
   keeps f stands = for_pair w' (λ p. IsTrueOf w' p f × ApartFrom f (actor_facts a')) (λ a1 b1 ea eb. (let s = steps a1 b1 ea eb in let t = s.4 in
       let was = at_pair w (λ p. IsTrueOf w p f × ApartFrom f (actor_facts a)) s.0 s.1 s.2 s.3 stands in
@@ -305,8 +319,9 @@ stepped_turn w w' caller a a' r entry world frame tells counted takes steps = re
 -- ---- turns that leave what the stores hold
 
 -- a step of an actor that came to nothing, or to the entry of a fault
-quiet_step : (w w' : WorldState) (a : Actor) (entry : Option NewEntry) (p : Pair) → IsReplayed w p → AllHold p w.retired (actor_facts a) → w'.retired ≡ w.retired → EntryDoes entry p p → ToldStep w w' a (after_fault a) entry p p
-quiet_step w w' a entry p h knows same does = record {
+quiet_step : (w w' : WorldState) (a : Actor) (entry : Option NewEntry) (p : Pair) → p.old_number < p.new_number → IsReplayed w p → AllHold p w.retired (actor_facts a) → w'.retired ≡ w.retired → EntryDoes entry p p → ToldStep w w' a (after_fault a) entry p p
+quiet_step w w' a entry p below h knows same does = record {
+  below = below;
   replayed = h;
   step = record {
     sound = h.sound;
@@ -329,7 +344,7 @@ quiet_steps w w' a entry world knows same quiet does a1 b1 ea eb =
       x.1,
       y.1,
       subst (λ c. ToldStep w w' a (after_fault a) entry (pair_of w x.0 y.0) (pair_of w c b1)) (sym x.2) (subst (λ c. ToldStep w w' a (after_fault a) entry (pair_of w x.0 y.0) (pair_of w x.0 c)) (sym y.2)
-          (quiet_step w w' a entry (pair_of w x.0 y.0) (at_pair w (IsReplayed w) x.0 y.0 x.1 y.1 world.replayed) (at_pair w (λ p. AreTrueOf w p (actor_facts a)) x.0 y.0 x.1 y.1 knows) same (does (pair_of w x.0 y.0)))),
+          (quiet_step w w' a entry (pair_of w x.0 y.0) (stores_below w world) (at_pair w (IsReplayed w) x.0 y.0 x.1 y.1 world.replayed) (at_pair w (λ p. AreTrueOf w p (actor_facts a)) x.0 y.0 x.1 y.1 knows) same (does (pair_of w x.0 y.0)))),
     )
 
 -- a turn that comes to nothing
@@ -389,6 +404,7 @@ no_fault (Client (client.Query call)) a' answer progress entry count moves = ap 
   by : (said : QueryProgress) → faults_after (query_move moves.to said).entry count ≡ count
   by query.More = refl
   by (query.Rows rows) = refl
+no_fault (Client (client.Page call)) a' answer progress entry count moves = ap (λ (m : Move). faults_after m.entry count) moves.is ∙ page_no_fault moves.to moves.filter moves.rows moves.said count
 no_fault (Client client.Ended) a' answer progress entry count moves = absurd moves
 
 ok_turn : (w w' : WorldState) (caller : ℕ) (a a' : Actor) (progress : Progress) (entry : Option NewEntry) → IsWorld w → Knows w a → IsFramed w a (Ok progress) w' → TakesTurn (stage_of w) caller a (Ok progress) entry (stage_of w') a' → KeptAndTurned w caller a (Ok progress) entry w' a'
@@ -407,9 +423,10 @@ ok_turn w w' caller a a' progress entry world knows frame takes =
             k.old,
             k.new,
             record {
+              below = stores_below w world;
               replayed = h;
               step = subst (λ r. ActorStep (actor_facts a) (actor_facts a') w.retired r (EntryDoes entry) (pair_of w k.a k.b) (pair_of w a1 b1)) (sym frame.retired)
-                  (actor_step a ask answer (record { progress = progress; entry = entry; after = a' }) (pair_of w k.a k.b) (pair_of w a1 b1) w.retired takes.fits asks k.means moves h.sound knows_of);
+                  (actor_step a ask answer (record { progress = progress; entry = entry; after = a' }) (pair_of w k.a k.b) (pair_of w a1 b1) w.retired k.fits k.rises takes.fits asks k.means moves h.sound knows_of);
             },
           )
 

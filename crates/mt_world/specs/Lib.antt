@@ -4,5 +4,7 @@ pub mod Logs
 pub mod Turns
 pub mod Steps
 pub mod WholeCalls
+pub mod PageCalls
+pub mod OpenPages
 pub mod Opening
 pub mod Replays

@@ -9,7 +9,7 @@ use Rattle.mt_history.specs.Kept.{has_room}
 use Rattle.mt_history.specs.Weight.{need_of_query}
 use Rattle.mt_world.specs.declared.actor.Actor.{Actor}
 use Rattle.mt_world.specs.declared.actor.Answer.{Answer}
-use Rattle.mt_world.specs.declared.actor.Answer.TheVariants.{Written, Refused, Rows}
+use Rattle.mt_world.specs.declared.actor.Answer.TheVariants.{Written, Refused, Rows, Page}
 use Rattle.mt_world.specs.declared.actor.Progress.{Progress}
 use Rattle.mt_world.specs.declared.actor.Progress.TheVariants.{More, Done}
 use Rattle.mt_world.specs.declared.actor.TurnFault.{TurnFault}
@@ -63,6 +63,7 @@ abbrev pub batch_entry : List Op → Result Answer TurnFault → Option NewEntry
 batch_entry ops (Ok (Written tags)) = Some (record { what = what.Batch ops tags; reply = reply.Written tags })
 batch_entry ops (Ok (Refused refusal)) = Some (record { what = what.Refused ops; reply = reply.Refused refusal })
 batch_entry ops (Ok (Rows rows)) = None
+batch_entry ops (Ok (Page page)) = None
 batch_entry ops (Err fault) = entry_of_fault fault
 
 -- and a query
@@ -70,6 +71,7 @@ abbrev pub query_entry : List ℕ → Option Filter → Result Answer TurnFault 
 query_entry pk filter (Ok (Written tags)) = None
 query_entry pk filter (Ok (Refused refusal)) = None
 query_entry pk filter (Ok (Rows rows)) = Some (record { what = what.Query pk filter; reply = reply.Rows rows })
+query_entry pk filter (Ok (Page page)) = None
 query_entry pk filter (Err fault) = entry_of_fault fault
 
 -- the marks of turns that found the history with that end, of which the last left this entry, or none

@@ -5,6 +5,7 @@ use mt_filter::Filter;
 use mt_model::{Entities, Text};
 use mt_query_plan::QueryCall;
 use mt_rules::Batch;
+use mt_scan::{Page, PageCall, Token};
 
 /// What a client asks for.
 #[derive(Drop)]
@@ -13,7 +14,18 @@ pub enum Request {
     Batch(Batch),
 
     /// The rows of a partition, or those of them that a filter matches.
-    Query { pk: Text, filter: Option<Filter> },
+    Query {
+        pk: Text,
+        filter: Option<Filter>,
+    },
+
+    /// A page of the rows of the table, or of those of them that a filter matches: at most `top`, which
+    /// is 1 to 1,000, from the token's place on, whose keys meet the rules, or from the start.
+    Page {
+        filter: Option<Filter>,
+        top: u32,
+        token: Option<Token>,
+    },
 }
 
 /// A client's call.
@@ -21,6 +33,7 @@ pub enum Request {
 pub enum ClientCall {
     Batch(BatchCall),
     Query(QueryCall),
+    Page(PageCall),
 
     /// The call was answered, or broke off at its first fault.
     Ended,
@@ -45,6 +58,10 @@ pub enum Answer {
     /// These rows were asked for, in the order of their keys: each with its visible properties and the
     /// tag that clients see.
     Rows(Entities),
+
+    /// This page was asked for: its rows in the order of their keys, each as above, and where the next
+    /// page begins.
+    Page(Page),
 }
 
 /// What a turn came to.

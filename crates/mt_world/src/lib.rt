@@ -4,6 +4,7 @@
 mod actor;
 mod log;
 mod opening;
+mod page;
 mod query;
 mod replay;
 mod stage;

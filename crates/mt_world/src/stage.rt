@@ -6,18 +6,20 @@ ghost use Rattle.mt_world.specs.Logs.{IsReady, Reserves};
 ghost use Rattle.mt_world.specs.Moves.{CanStep};
 ghost use Rattle.mt_world.specs.Turns.{CallsOn, TakesSomeTurn};
 ghost use Rattle.mt_world.specs.Steps.{CallsStore, Answered, said_by, left_by};
+ghost use Rattle.mt_scan.specs.Pages.{is_over};
 ghost use Rattle.mt_chain.specs.Batch.{batch_weight};
 ghost use Rattle.mt_history.specs.Kept.{has_room};
 ghost use Rattle.mt_chain.specs.declared.ask.StoreAsk.{StoreAsk};
 
 use crate::actor::{Actor, Answer, ClientCall, Progress, TurnFault};
 use crate::log::Log;
-use crate::query;
+use crate::{page, query};
 use mt_batch_plan::{BatchCall, BatchProgress};
 use mt_chain::{CallFault, Keeper, Side, StoreAsk, StoreReply, Tags};
 use mt_history::What;
 use mt_model::{NoMemory, Tag};
 use mt_query_plan::QueryCall;
+use mt_scan::PageCall;
 use std::alloc::Global;
 use std::marker::Model;
 use std::mem;
@@ -212,6 +214,22 @@ impl<K: Keeper> Stage<K> {
         query::answer(alloc, &mut self.log, caller, call, reply)
     }
 
+    /// One turn of a page.
+    fn page_turn(&mut self, alloc: Global, caller: u32, call: PageCall) -> Result<Step, TurnFault>
+        requires { is_over call ≡ false }
+        ensures { TakesSomeTurn self.old caller (Actor.Client (ClientCall.Page call)) (said_by result) self.new (left_by result) }
+    {
+        let need = call.need();
+        if !self.log.history().room_for(need) {
+            return Err(TurnFault::HistoryFull);
+        }
+        let Ok(ask) = page::prepare(alloc, &mut self.log, caller, &call) else {
+            return Err(TurnFault::NoMemory);
+        };
+        let reply = self.ask_store(alloc, caller, ask)?;
+        page::answer(alloc, &mut self.log, caller, call, reply)
+    }
+
     /// One turn of a client's call.
     fn client_turn(
         &mut self,
@@ -225,6 +243,7 @@ impl<K: Keeper> Stage<K> {
         match call {
             ClientCall::Batch(call) => self.batch_turn(alloc, caller, call),
             ClientCall::Query(call) => self.query_turn(alloc, caller, call),
+            ClientCall::Page(call) => self.page_turn(alloc, caller, call),
             ClientCall::Ended => unreachable!(),
         }
     }

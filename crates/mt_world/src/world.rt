@@ -4,7 +4,7 @@ ghost use Rattle.mt_open.specs.Opening.{OpensPair};
 ghost use Rattle.mt_world.specs.Worlds.{IsWorld};
 ghost use Rattle.mt_world.specs.Replays.{CountsRows};
 ghost use Rattle.mt_world.specs.Opening.{Opened};
-ghost use Rattle.mt_world.specs.Moves.{CanStep, IsCallOf};
+ghost use Rattle.mt_world.specs.Moves.{CanStep, MayRequest, IsCallOf};
 ghost use Rattle.mt_world.specs.Turns.{Knows, Turned};
 ghost use Rattle.mt_world.specs.WholeCalls.{EndsCall};
 
@@ -19,6 +19,7 @@ use mt_history::History;
 use mt_model::{Entities, NoMemory};
 use mt_open::{OpenedPair, open_stores};
 use mt_query_plan::QueryCall;
+use mt_scan::{PageCall, page_bounds};
 use std::alloc::Global;
 use std::marker::Model;
 use std::snapshot::Snapshot;
@@ -134,8 +135,10 @@ impl<K: Keeper> World<K> {
         }
     }
 
-    /// The call of a request, at its beginning, which knows nothing yet. The world stays as it is.
+    /// The call of a request, at its beginning, which knows nothing yet. The world stays as it is. The
+    /// one error is want of memory, for the bounds of a page.
     pub fn call_of(&mut self, alloc: Global, request: Request) -> Result<ClientCall, NoMemory>
+        requires { MayRequest request }
         ensures same { self.new ≡ self.old }
         ensures call { IfOk result (IsCallOf request) }
         ensures ready { IfOk result (λ c. CanStep (Actor.Client c)) }
@@ -146,6 +149,10 @@ impl<K: Keeper> World<K> {
             Request::Query { pk, filter } => {
                 Ok(ClientCall::Query(QueryCall::new(pk, filter, false)))
             }
+            Request::Page { filter, top, token } => {
+                let bounds = page_bounds(alloc, &filter)?;
+                Ok(ClientCall::Page(PageCall::new(alloc, filter, bounds, top, token)))
+            }
         }
     }
 
@@ -153,7 +160,8 @@ impl<K: Keeper> World<K> {
     /// ends a client's call. A batch that was written is answered so: all memory is taken before.
     ///
     /// Refused with `HistoryFull` exactly where the history has no room for an entry of the weight of
-    /// the call's batch or query. The history takes in order what was answered, and that store calls failed.
+    /// the call's batch or query, or for a page of 64, its filter's size and 4,096. The history takes in
+    /// order what was answered, each unit of a page, and that store calls failed.
     pub fn turn(
         &mut self,
         alloc: Global,
@@ -170,7 +178,8 @@ impl<K: Keeper> World<K> {
 
     /// Takes turns until the call ends, with no other caller between them. A batch at its beginning
     /// takes three at most while both stores tell what they hold: one that reads the old store, one that
-    /// reads the new one, where the old one says so, and one that writes. A query takes two at most.
+    /// reads the new one, where the old one says so, and one that writes. A query takes two at most, and
+    /// a page two for each of its 256 units. The entries of a page's units stay where a fault ends it.
     pub fn finish(
         &mut self,
         alloc: Global,

@@ -47,7 +47,7 @@ fn brought(alloc: Global, kind: Do) -> Result<Props, Fail>
     }
 }
 
-fn key(alloc: Global, pk: &str, rk: &str) -> Result<Key, Fail>
+pub fn key(alloc: Global, pk: &str, rk: &str) -> Result<Key, Fail>
     ensures { IfOk result (λ k. key_fault k.pk k.rk ≡ None) }
 {
     Ok(Key::read(alloc, pk, rk)?)

@@ -16,6 +16,8 @@ mod queries;
 #[cfg(test)]
 mod turns;
 #[cfg(test)]
+mod world_pages;
+#[cfg(test)]
 mod world_queries;
 #[cfg(test)]
 mod worlds;

@@ -1,4 +1,7 @@
 //! Queries of a world, beside batches.
+ghost use Rattle.std.specs.Prelude.{IfOk};
+ghost use Rattle.mt_world.specs.Moves.{MayRequest};
+
 use crate::batches::{Do, batch};
 use crate::queries::filter_of;
 use crate::worlds::{asked, entry_text, opened};
@@ -34,7 +37,9 @@ struct Scene<'a> {
     asks: [Ask; 3],
 }
 
-fn request(alloc: Global, ask: Ask) -> Result<Request, Fail> {
+fn request(alloc: Global, ask: Ask) -> Result<Request, Fail>
+    ensures { IfOk result MayRequest }
+{
     match ask {
         Ask::Op(kind) => Ok(Request::Batch(batch(alloc, "p", &[("r", kind)])?)),
         Ask::Query(pk, filter) => {

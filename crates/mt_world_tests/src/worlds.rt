@@ -1,9 +1,12 @@
 //! Worlds over two stores with a past, and what their calls are answered, as texts.
 ghost use Rattle.std.specs.Prelude.{◌≡◌};
+ghost use Rattle.mt_world.specs.Moves.{MayRequest};
 
+use mt_chain::PkFrom;
 use mt_history::{History, What};
 use mt_mem::MemKeeper;
 use mt_model::Entity;
+use mt_scan::{Page, Token};
 use mt_test_stores::{Past, store_of, tag_text};
 use mt_world::{Answer, Request, TurnFault, World};
 use std::alloc::Global;
@@ -22,10 +25,36 @@ fn answered_rows(alloc: Global, rows: &[Entity]) -> Result<String, Fail> {
     Ok(text)
 }
 
+/// Where the page after another one begins.
+fn token_text(alloc: Global, token: &Option<Token>) -> Result<String, Fail> {
+    match token {
+        None => Ok(format!(in alloc; "end ")?),
+        Some(Token::Row(key)) => {
+            let (pk, rk) = (key.pk.as_str(), key.rk.as_str());
+            Ok(format!(in alloc; "row {pk} {rk} ")?)
+        }
+        Some(Token::Part(PkFrom::From(pk))) => {
+            let pk = pk.as_str();
+            Ok(format!(in alloc; "from {pk} ")?)
+        }
+        Some(Token::Part(PkFrom::After(pk))) => {
+            let pk = pk.as_str();
+            Ok(format!(in alloc; "after {pk} ")?)
+        }
+    }
+}
+
+fn page_text(alloc: Global, page: &Page) -> Result<String, Fail> {
+    let rows = answered_rows(alloc, page.rows.as_slice())?;
+    let token = token_text(alloc, &page.token)?;
+    Ok(format!(in alloc; "{rows}{token}")?)
+}
+
 pub fn answer_text(alloc: Global, answer: &Answer) -> Result<String, Fail> {
     match answer {
         Answer::Written(tags) => tag_text(alloc, tags.as_slice()),
         Answer::Rows(rows) => answered_rows(alloc, rows.as_slice()),
+        Answer::Page(page) => page_text(alloc, page),
         Answer::Refused(refusal) => {
             let (index, cause) = (refusal.index, refusal.cause);
             Ok(format!(in alloc; "{cause:?} at {index} ")?)
@@ -50,8 +79,10 @@ fn kind(what: &What) -> &'static str {
         What::Refused { .. } => "refused",
         What::Query { filter: None, .. } => "query",
         What::Query { .. } => "filtered",
+        What::Scan { filter: None, .. } => "scan",
+        What::Scan { .. } => "filtered scan",
+        What::Gap { .. } => "gap",
         What::Fault => "fault",
-        _ => "other",
     }
 }
 
@@ -79,7 +110,11 @@ pub fn opened(
     requires old { old.store ≡ 0 }
     requires new { new.store ≡ 1 }
 {
-    let entries = if entries == 1 { 1 } else { 10 };
+    let entries = match entries {
+        1 => 1,
+        3 => 3,
+        _ => 10,
+    };
     match World::open_world(alloc, old, new, entries) {
         Ok(world) => Ok(world),
         Err(_) => Err(Fail::new("two stores were not opened")),
@@ -99,7 +134,9 @@ pub fn asked(
     world: &mut World<MemKeeper>,
     caller: u32,
     request: Request,
-) -> Result<String, Fail> {
+) -> Result<String, Fail>
+    requires { MayRequest request }
+{
     let call = world.call_of(alloc, request)?;
     let outcome = world.finish(alloc, caller, call);
     let text = outcome_text(alloc, &outcome)?;

@@ -1,5 +1,5 @@
 use Rattle.std.proofs.Common.{false, true, ◌≡◌, ◌∷◌, [], Ok, Err, refl, ap}
-use Rattle.mt_world.specs.declared.actor.Answer.TheVariants.{Written, Refused, Rows}
+use Rattle.mt_world.specs.declared.actor.Answer.TheVariants.{Written, Refused, Rows, Page}
 use Rattle.mt_world.specs.declared.actor.TurnFault.TheVariants.{StoreFault, HistoryFull, NoMemory}
 use Rattle.mt_front.specs.Items.{applied_entry}
 use Rattle.mt_front.specs.declared.connection.Outcome.TheVariants as outcome
@@ -52,4 +52,10 @@ pub unreachable-requires : goal.unreachable-requires
 unreachable-requires g c =
     let k = called 0 c.args.world.now c.call_of.new.self c.finish.new.self c.args.op c.in_ok-batch.batch c.in_ok-call.call (Ok (Rows c.in-Ok-Rows.field-0-0)) c.in_ok-call.ensures.same c.in_ok-call.ensures.call c.in_ok-batch.ensures
     (rw c.in-Ok-Rows.field-0-is at c.in-Ok-Rows.ensures) in
+    (let none : false ≡ true = k.answers.answered in absurd cc)
+
+pub unreachable-requires-in-Ok-Page : goal.unreachable-requires-in-Ok-Page
+unreachable-requires-in-Ok-Page g c =
+    let k = called 0 c.args.world.now c.call_of.new.self c.finish.new.self c.args.op c.in_ok-batch.batch c.in_ok-call.call (Ok (Page c.in-Ok-Page.field-0-0)) c.in_ok-call.ensures.same c.in_ok-call.ensures.call c.in_ok-batch.ensures
+    (rw c.in-Ok-Page.field-0-is at c.in-Ok-Page.ensures) in
     (let none : false ≡ true = k.answers.answered in absurd cc)
