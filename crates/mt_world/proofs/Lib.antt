@@ -2,6 +2,10 @@ pub mod LogLaws
 pub mod StageLaws
 pub mod PairLaws
 pub mod EntryLaws
+pub mod MigratorLaws
+pub mod CleanerLaws
+pub mod SealLaws
+pub mod BesideLaws
 pub mod TurnLaws
 pub mod OpenLaws
 pub mod FinishLaws

@@ -4,5 +4,6 @@ pub mod Logs
 pub mod Turns
 pub mod Steps
 pub mod WholeCalls
+pub mod Sealing
 pub mod Opening
 pub mod Replays
