@@ -153,6 +153,11 @@ fn try_op<K: Keeper>(alloc: Global, world: &mut World<K>, op: Op) -> Result<Outc
         Ok(Answer::Refused(refusal)) => Ok(Outcome::Refused(refusal)),
         Ok(Answer::Rows(_)) => unreachable!(),
         Ok(Answer::Page(_)) => unreachable!(),
+
+        Ok(Answer::Moved) => unreachable!(),
+        Ok(Answer::Cleaned) => unreachable!(),
+        Ok(Answer::NotSealed) => unreachable!(),
+        Ok(Answer::NotMigrated { .. }) => unreachable!(),
         Err(TurnFault::StoreFault) => Ok(Outcome::Fault),
         Err(TurnFault::HistoryFull) => Ok(Outcome::Full),
         Err(TurnFault::NoMemory) => Err(NoMemory),

@@ -27,19 +27,23 @@ use Rattle.mt_query_plan.specs.Alone as alone
 use Rattle.mt_query_plan.proofs.AloneLaws as alone_laws
 use Rattle.mt_world.specs.declared.actor.ClientCall.TheVariants as client
 use Rattle.mt_world.specs.declared.actor.Actor.{Actor}
-use Rattle.mt_world.specs.declared.actor.Actor.TheVariants.{Client}
+use Rattle.mt_world.specs.declared.actor.Actor.TheVariants.{Client, Migrator, Cleaner}
 use Rattle.mt_world.specs.declared.actor.Answer.{Answer}
-use Rattle.mt_world.specs.declared.actor.Answer.TheVariants.{Written, Refused, Rows, Page}
+use Rattle.mt_world.specs.declared.actor.Answer.TheVariants.{Written, Refused, Rows, Page, Moved, Cleaned, NotSealed, NotMigrated}
 use Rattle.mt_world.specs.declared.actor.Progress.{Progress}
 use Rattle.mt_world.specs.declared.actor.Progress.TheVariants.{More, Done}
 use Rattle.mt_world.specs.declared.actor.TurnFault.{TurnFault}
 use Rattle.mt_world.specs.declared.actor.TurnFault.TheVariants.{StoreFault, HistoryFull, NoMemory}
-use Rattle.mt_world.specs.Worlds.{WorldState, pair_of, ForPair, Tells, IsReplayed, IsWorld, table_now, next_number, entry_of}
-use Rattle.mt_world.specs.Moves.{NewEntry, Move, BatchMoves, batch_move, QueryMoves, query_move, CanStep, ActorFits, IsAtBegin, turns_at_most, need_of, retired_by}
+use Rattle.mt_meta.specs.declared.fact.Fact.{Fact}
+use Rattle.mt_meta.specs.Facts.{ApartFrom}
+use Rattle.mt_world.specs.Worlds.{WorldState, pair_of, ForPair, Tells, IsTrueOf, StandsBeside, KeepsApart, IsReplayed, IsWorld, table_now, next_number, entry_of}
+use Rattle.mt_world.specs.Moves.{NewEntry, Move, BatchMoves, batch_move, QueryMoves, query_move, CanStep, ActorFits, actor_facts, IsAtBegin, turns_at_most, need_of, retired_by}
 use Rattle.mt_world.specs.Logs.{Adds, entries_with}
 use Rattle.mt_world.specs.Turns.{Stage, stage_of, log_of, CallsOn, OneCall, Moves, is_full, RepliesAt, IsSameWorld, Turns, EitherRose}
 use Rattle.mt_world.specs.WholeCalls.{Mark, MarkedTurn, last_turn, Finishes, EndsCall, end_of, batch_entry, query_entry, AreMarksAt, CallAnswers, BatchAnswers, QueryAnswers}
-use Rattle.mt_world.proofs.PairLaws.{for_pair, at_pair, same_pair, before, failed_rose}
+use Rattle.mt_world.proofs.PairLaws.{for_pair, at_pair, map_pair, same_pair, before, failed_rose}
+use Rattle.mt_world.proofs.MigratorLaws.{migrator_goes_on}
+use Rattle.mt_world.proofs.CleanerLaws.{cleaner_goes_on}
 use Rattle.mt_world.proofs.EntryLaws.{window_stays}
 use Rattle.mt_world.proofs.TurnLaws.{moved}
 use Rattle.mt_world.proofs.PageFinish.{told_is, page_goes_on, still_open, PageStands, page_begins, page_on, page_few}
@@ -118,6 +122,8 @@ can_go_on w w' caller (Client client.Ended) a' entry can t = absurd can
 can_go_on w w' caller (Client (client.Batch call)) a' entry can t = subst CanStep (sym (goes_on w w' call entry a' t.moves).after) tt
 can_go_on w w' caller (Client (client.Query call)) a' entry can t = subst CanStep (sym (query_goes_on w w' call entry a' t.moves).after) tt
 can_go_on w w' caller (Client (client.Page call)) a' entry can t = (let g = page_goes_on w w' call entry a' t.moves in subst CanStep (sym g.after) (still_open call w w' entry a' can g))
+can_go_on w w' caller (Migrator state) a' entry can t = (let m = migrator_goes_on state t.moves.1 entry a' t.moves.4 in subst CanStep (sym m.after) m.can)
+can_go_on w w' caller (Cleaner state) a' entry can t = (let m = cleaner_goes_on state t.moves.1 More entry a' t.moves.4 in subst CanStep (sym m.after) (m.can (λ e. cc)))
 
 -- ---- how often a call may go on
 
@@ -140,12 +146,16 @@ StandsAt n w (Client (client.Batch call)) = (n ≤ turns_before call.place) × F
 StandsAt n w (Client (client.Query call)) = (n ≤ alone.turns_before call.place) × ForPair w (λ p. alone.StandsOn p call.pk call.place)
 StandsAt n w (Client (client.Page call)) = PageStands n w call
 StandsAt n w (Client client.Ended) = ⊥
+StandsAt n w (Migrator state) = ⊥
+StandsAt n w (Cleaner state) = ⊥
 
 begins : (w : WorldState) (a : Actor) → IsAtBegin a → StandsAt 0 w a
 begins w (Client (client.Batch call)) begin = (omega arith, for_pair w (λ p. StandsOn p call.batch call.place) (λ a b ea eb. subst (StandsOn (pair_of w a b) call.batch) (sym begin) tt))
 begins w (Client (client.Query call)) begin = (omega arith, for_pair w (λ p. alone.StandsOn p call.pk call.place) (λ a b ea eb. subst (alone.StandsOn (pair_of w a b) call.pk) (sym begin) tt))
 begins w (Client (client.Page call)) begin = page_begins w call begin.0 begin.1
 begins w (Client client.Ended) begin = absurd begin
+begins w (Migrator state) begin = absurd begin
+begins w (Cleaner state) begin = absurd begin
 
 batch_on : (n : ℕ) (w w' : WorldState) (call : Call) (entry : Option NewEntry) (a' : Actor) → IsWorld w → ActorFits (Client (client.Batch call)) → StandsAt n w (Client (client.Batch call)) → IsSameWorld w w' → GoesOn call w w' entry a' → Tells w' → StandsAt (suc n) w' a'
 batch_on n w w' call entry a' world fits at same g tells = subst (StandsAt (suc n) w') (sym g.after) (
@@ -194,6 +204,8 @@ stands_on n w w' caller (Client (client.Batch call)) a' entry world at t tells =
 stands_on n w w' caller (Client (client.Query call)) a' entry world at t tells = query_on n w w' call entry a' world at t.same (query_goes_on w w' call entry a' t.moves) tells
 stands_on n w w' caller (Client (client.Page call)) a' entry world at t tells = (let g = page_goes_on w w' call entry a' t.moves in subst (StandsAt (suc n) w') (sym g.after) (page_on n w w' caller call a' entry world at t g tells))
 stands_on n w w' caller (Client client.Ended) a' entry world at t tells = absurd at
+stands_on n w w' caller (Migrator state) a' entry world at t tells = absurd at
+stands_on n w w' caller (Cleaner state) a' entry world at t tells = absurd at
 
 -- one turn more is within the bound
 stands_few : (n : ℕ) (w : WorldState) (a : Actor) → StandsAt n w a → n + 1 ≤ turns_at_most a
@@ -201,6 +213,8 @@ stands_few n w (Client (client.Batch call)) h = (let so_far = h.0 in let few = f
 stands_few n w (Client (client.Query call)) h = (let so_far = h.0 in let few = alone_laws.few_before call.place in omega (arith, so_far, few))
 stands_few n w (Client (client.Page call)) h = page_few n w call h
 stands_few n w (Client client.Ended) h = absurd h
+stands_few n w (Migrator state) h = absurd h
+stands_few n w (Cleaner state) h = absurd h
 
 -- which stays the same
 same_bound : (w w' : WorldState) (caller : ℕ) (a a' : Actor) (entry : Option NewEntry) → Turns w caller a (Ok More) entry w' a' → turns_at_most a' ≡ turns_at_most a
@@ -208,6 +222,8 @@ same_bound w w' caller (Client (client.Batch call)) a' entry t = ap turns_at_mos
 same_bound w w' caller (Client (client.Query call)) a' entry t = ap turns_at_most (query_goes_on w w' call entry a' t.moves).after
 same_bound w w' caller (Client (client.Page call)) a' entry t = ap turns_at_most (page_goes_on w w' call entry a' t.moves).after
 same_bound w w' caller (Client client.Ended) a' entry t = absurd t.moves.2
+same_bound w w' caller (Migrator state) a' entry t = ap turns_at_most (migrator_goes_on state t.moves.1 entry a' t.moves.4).after
+same_bound w w' caller (Cleaner state) a' entry t = ap turns_at_most (cleaner_goes_on state t.moves.1 More entry a' t.moves.4).after
 
 -- ---- the turns of a call so far
 
@@ -217,9 +233,10 @@ pub record Went (w : WorldState) (caller : ℕ) (a : Actor) (m : WorldState) (b 
   pub rest : (next : Mark) (more : List Mark) (r : Result Answer TurnFault) (w' : WorldState) → Finishes (next ∷ more) m caller b r w' → Finishes (marks ++ next ∷ more) w caller a r w'
   pub stands : IsAtBegin a → Tells m → StandsAt (length marks) m b
   pub bound : turns_at_most b ≡ turns_at_most a
+  pub keeps : KeepsApart w (actor_facts a) m (actor_facts b)
 
 pub went_none : (w : WorldState) (caller : ℕ) (a : Actor) → Went w caller a w a
-went_none w caller a = record { marks = []; rest = λ next more r w' f. f; stands = λ begin tells. begins w a begin; bound = refl }
+went_none w caller a = record { marks = []; rest = λ next more r w' f. f; stands = λ begin tells. begins w a begin; bound = refl; keeps = λ f stands. stands }
 
 abbrev mark_of : WorldState → Option NewEntry → Mark
 mark_of w entry = record { place = end_of w; entry = entry }
@@ -231,7 +248,12 @@ went_more w m m' caller a b b' entry world g t = record {
   stands = λ begin tells. subst (λ n. StandsAt n m' b') (sym (length-append g.marks (mark_of m entry ∷ []) ∙ let e : length g.marks + 1 ≡ suc (length g.marks) = omega arith in e))
       (stands_on (length g.marks) m m' caller b b' entry world (g.stands begin (t.tells tells)) t tells);
   bound = same_bound m m' caller b b' entry t ∙ g.bound;
+  keeps = λ f stands. t.keeps f (g.keeps f stands);
 }
+
+-- a call that has ended knows nothing
+pub beside_none : (w : WorldState) (own : List Fact) (f : Fact) → StandsBeside w own f → StandsBeside w [] f
+beside_none w own f stands = map_pair w (λ p. IsTrueOf w p f × ApartFrom f own) (λ p. IsTrueOf w p f × ApartFrom f []) (λ p h. (h.0, tt)) stands
 
 pub went_ends : (w m w' : WorldState) (caller : ℕ) (a b b' : Actor) (r : Result Answer TurnFault) (entry : Option NewEntry) → Went w caller a m b → Turns m caller b (last_turn r) entry w' b' → EndsCall w caller a r w'
 went_ends w m w' caller a b b' r entry g t = record {
@@ -239,6 +261,7 @@ went_ends w m w' caller a b b' r entry g t = record {
   turns = g.rest (mark_of m entry) [] r w' (b', record { place = refl; turn = t });
   few = λ begin tells. subst (λ n. n ≤ turns_at_most a) (sym (length-append g.marks (mark_of m entry ∷ [])))
       (subst (λ n. length g.marks + 1 ≤ n) g.bound (stands_few (length g.marks) m b (g.stands begin (t.tells tells))));
+  keeps = λ f stands. beside_none w' (actor_facts b') f (t.keeps f (g.keeps f stands));
 }
 
 -- ---- what a whole call does
@@ -279,6 +302,14 @@ batch_ended ops to (batch.Refused refusal) (Refused told) same is = (let e : tol
 batch_ended ops to (batch.Refused refusal) (Written given) same is = absurd cc
 batch_ended ops to (batch.Refused refusal) (Rows rows) same is = absurd cc
 batch_ended ops to (batch.Refused refusal) (Page whole) same is = absurd cc
+batch_ended ops to (batch.Written tags) Moved same is = absurd cc
+batch_ended ops to (batch.Written tags) Cleaned same is = absurd cc
+batch_ended ops to (batch.Written tags) NotSealed same is = absurd cc
+batch_ended ops to (batch.Written tags) (NotMigrated pk) same is = absurd cc
+batch_ended ops to (batch.Refused refusal) Moved same is = absurd cc
+batch_ended ops to (batch.Refused refusal) Cleaned same is = absurd cc
+batch_ended ops to (batch.Refused refusal) NotSealed same is = absurd cc
+batch_ended ops to (batch.Refused refusal) (NotMigrated pk) same is = absurd cc
 
 batch_last : (c c' : Stage) (call : Call) (a' : Actor) (r : Result Answer TurnFault) (entry : Option NewEntry) → Moves c (Client (client.Batch call)) (last_turn r) entry c' a' → IsEntryOf r (batch_entry call.batch r) entry
 batch_last c c' call a' (Ok answer) entry m =
@@ -296,6 +327,10 @@ query_ended pk test to (query.Rows rows) (Rows given) same whole is =
 query_ended pk test to (query.Rows rows) (Written given) same whole is = absurd cc
 query_ended pk test to (query.Rows rows) (Refused refusal) same whole is = absurd cc
 query_ended pk test to (query.Rows rows) (Page page) same whole is = absurd cc
+query_ended pk test to (query.Rows rows) Moved same whole is = absurd cc
+query_ended pk test to (query.Rows rows) Cleaned same whole is = absurd cc
+query_ended pk test to (query.Rows rows) NotSealed same whole is = absurd cc
+query_ended pk test to (query.Rows rows) (NotMigrated part) same whole is = absurd cc
 
 query_last : (c c' : Stage) (call : queries.Call) (a' : Actor) (r : Result Answer TurnFault) (entry : Option NewEntry) → Moves c (Client (client.Query call)) (last_turn r) entry c' a' → IsEntryOf r (query_entry call.pk call.filter r) entry
 query_last c c' call a' (Ok answer) entry m =

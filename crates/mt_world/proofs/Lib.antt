@@ -4,6 +4,10 @@ pub mod PairLaws
 pub mod EntryLaws
 pub mod PageSteps
 pub mod PageEntries
+pub mod MigratorLaws
+pub mod CleanerLaws
+pub mod SealLaws
+pub mod BesideLaws
 pub mod TurnLaws
 pub mod OpenLaws
 pub mod PageFinish

@@ -29,7 +29,7 @@ use Rattle.mt_world.specs.declared.actor.ClientCall.TheVariants as client
 use Rattle.mt_world.specs.declared.actor.Actor.{Actor}
 use Rattle.mt_world.specs.declared.actor.Actor.TheVariants.{Client}
 use Rattle.mt_world.specs.declared.actor.Answer.{Answer}
-use Rattle.mt_world.specs.declared.actor.Answer.TheVariants.{Written, Refused, Rows, Page}
+use Rattle.mt_world.specs.declared.actor.Answer.TheVariants.{Written, Refused, Rows, Page, Moved, Cleaned, NotSealed, NotMigrated}
 use Rattle.mt_world.specs.declared.actor.Progress.{Progress}
 use Rattle.mt_world.specs.declared.actor.Progress.TheVariants.{More, Done}
 use Rattle.mt_world.specs.declared.actor.TurnFault.{TurnFault}
@@ -174,6 +174,10 @@ module _ (next : Mark) (marks : List Mark) (w v w' : WorldState) (caller : ℕ) 
   answer_half half (Ok (Written tags)) [] h = h
   answer_half half (Ok (Refused refusal)) [] h = h
   answer_half half (Ok (Rows rows)) [] h = h
+  answer_half half (Ok Moved) [] h = h
+  answer_half half (Ok Cleaned) [] h = h
+  answer_half half (Ok NotSealed) [] h = h
+  answer_half half (Ok (NotMigrated pk)) [] h = h
   answer_half half (Err fault) [] h = tt
 
   then_more : (half : Half) → TurnOf None → Rest (pages.with_half call half) → Whole None

@@ -25,7 +25,7 @@ use Rattle.mt_scan.proofs.NeedLaws.{same_replies}
 use Rattle.mt_scan.proofs.StepLaw.{scan_law}
 use Rattle.mt_world.specs.declared.actor.ClientCall.TheVariants as client
 use Rattle.mt_world.specs.declared.actor.Actor.TheVariants.{Client}
-use Rattle.mt_world.specs.Moves.{Move, PageMoves, page_move, actor_facts}
+use Rattle.mt_world.specs.Moves.{Move, PageMoves, page_move, actor_facts, retired_where}
 use Rattle.mt_world.specs.Logs.{faults_after}
 use Rattle.mt_world.proofs.EntryLaws.{EntryDoes, SaysOf}
 
@@ -87,3 +87,9 @@ page_no_fault to kept rows (page.Unit (Scan pk from upto)) count = refl
 page_no_fault to kept rows (page.Unit (Gap from next)) count = refl
 page_no_fault to kept rows (page.Last (Scan pk from upto)) count = refl
 page_no_fault to kept rows (page.Last (Gap from next)) count = refl
+
+-- and retires no world
+pub page_not_retired : (to : pages.Page) (kept : Option Filter) (rows : List Entity) (said : PageProgress) (retired : Bool) → retired_where (Ok (page_move to kept rows said).progress) retired ≡ retired
+page_not_retired to kept rows page.More retired = refl
+page_not_retired to kept rows (page.Unit unit) retired = refl
+page_not_retired to kept rows (page.Last unit) retired = refl

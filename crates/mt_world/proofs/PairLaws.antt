@@ -20,6 +20,11 @@ use Rattle.mt_world.specs.Turns.{IsSameWorld, CallsOn}
 
 -- ---- one store
 
+-- what is said of the contents that a store tells
+pub some_of : (P : Contents → Type 0) (o : Option Contents) (c : Contents) → o ≡ Some c → IfSome o P → P c
+some_of P None c e h = absurd cc
+some_of P (Some d) c e h = (let same : d ≡ c = cc in subst P same h)
+
 -- where a store tells afterwards it told before
 pub told_before : (P : Contents → Contents → Type 0) (s t : Option Contents) (b : Contents) → t ≡ Some b → Onward P s t → (a : Contents) × (s ≡ Some a) × P a b
 told_before P s None b e h = absurd cc
@@ -76,11 +81,8 @@ pub record Before (w : WorldState) (ask : StoreAsk) (r : StoreReply) (a' b' : Co
   -- the reply is of the kind that was asked for, and the store's rows rise
   pub fits : FitsAsk ask.ask r
   pub rises : IsContents (contents_on ask.side (pair_of w a' b'))
-
--- what a store tells has rows that rise
-some_contents : (o : Option Contents) (c : Contents) → o ≡ Some c → IfSome o IsContents → IsContents c
-some_contents None c e h = absurd cc
-some_contents (Some x) c e h = (let same : x ≡ c = cc in subst IsContents same h)
+  -- the keys of what each store tells still rise
+  pub contents : IsContents a × IsContents b → IsContents a' × IsContents b'
 
 -- the reply of a call is of the kind that was asked for
 pub call_fits : (s s' t t' : Store) (side : Side) (ask : Ask) (r : StoreReply) → CallsOn side s s' ask (Ok r) t t' → FitsAsk ask r
@@ -94,10 +96,10 @@ pub before : (w w' : WorldState) (side : Side) (ask : Ask) (r : StoreReply) (a' 
     → CallsOn side w.old_store w.new_store ask (Ok r) w'.old_store w'.new_store → Before w (record { side = side; ask = ask }) r a' b'
 before w w' Old ask r a' b' ea eb h =
     let x = told_before (Means w.old_store.number ask r) w.old_store.told w'.old_store.told a' ea h.0.shows.2 in
-    record { a = x.0; b = b'; old = x.1; new = same_told w.new_store w'.new_store b' h.1 eb; means = (x.2, refl); fits = h.0.shows.1; rises = some_contents w'.old_store.told a' ea h.0.counted.contents }
+    record { a = x.0; b = b'; old = x.1; new = same_told w.new_store w'.new_store b' h.1 eb; means = (x.2, refl); fits = h.0.shows.1; rises = some_of IsContents w'.old_store.told a' ea h.0.counted.contents; contents = λ c. (some_of IsContents w'.old_store.told a' ea h.0.counted.contents, c.1) }
 before w w' New ask r a' b' ea eb h =
     let x = told_before (Means w.new_store.number ask r) w.new_store.told w'.new_store.told b' eb h.0.shows.2 in
-    record { a = a'; b = x.0; old = same_told w.old_store w'.old_store a' h.1 ea; new = x.1; means = (x.2, refl); fits = h.0.shows.1; rises = some_contents w'.new_store.told b' eb h.0.counted.contents }
+    record { a = a'; b = x.0; old = same_told w.old_store w'.old_store a' h.1 ea; new = x.1; means = (x.2, refl); fits = h.0.shows.1; rises = some_of IsContents w'.new_store.told b' eb h.0.counted.contents; contents = λ c. (c.0, some_of IsContents w'.new_store.told b' eb h.0.counted.contents) }
 
 pub called_tells : (w w' : WorldState) (side : Side) (ask : Ask) (r : StoreReply) → CallsOn side w.old_store w.new_store ask (Ok r) w'.old_store w'.new_store → Tells w' → Tells w
 called_tells w w' Old ask r h tells = record {

@@ -36,7 +36,7 @@ use Rattle.mt_query_plan.specs.Queries as queries
 use Rattle.mt_world.specs.declared.actor.ClientCall.{ClientCall}
 use Rattle.mt_world.specs.declared.actor.ClientCall.TheVariants as client
 use Rattle.mt_world.specs.declared.actor.Actor.{Actor}
-use Rattle.mt_world.specs.declared.actor.Actor.TheVariants.{Client}
+use Rattle.mt_world.specs.declared.actor.Actor.TheVariants.{Client, Migrator, Cleaner}
 use Rattle.mt_world.specs.declared.actor.Answer.TheVariants.{Written, Refused, Rows}
 use Rattle.mt_world.specs.declared.actor.Progress.{Progress}
 use Rattle.mt_world.specs.declared.actor.Progress.TheVariants.{More, Done}
@@ -76,6 +76,8 @@ least_need (Client (client.Batch call)) can = omega arith
 least_need (Client (client.Query call)) can = omega arith
 least_need (Client (client.Page call)) can = omega arith
 least_need (Client client.Ended) can = absurd can
+least_need (Migrator state) can = omega arith
+least_need (Cleaner state) can = omega arith
 
 -- ---- answers
 
@@ -119,6 +121,10 @@ adds_after l k l' caller entry r a = record {
   first = a.first ∙ ap (λ h. h.first) r.history;
   limit = a.limit ∙ ap (λ h. h.limit) r.history;
 }
+
+-- an actor that leaves no entry
+pub silent : (a a' : Actor) (answer : StoreReply) (l : Log) (caller : ℕ) (r : Result Progress TurnFault) → GoesOn a answer r None a' → Answered a answer l caller r l a'
+silent a a' answer l caller r goes = record { entry = None; goes = goes; adds = adds_none l l caller (reserves_self l) }
 
 -- an actor that has no memory for what may be lost
 pub forgotten : (a a' : Actor) (r : StoreReply) (l : Log) (caller : ℕ) → MayBeLost (Ok r) → a' ≡ after_fault a → Answered a r l caller (Err NoMemory) l a'

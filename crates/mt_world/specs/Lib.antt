@@ -6,5 +6,6 @@ pub mod Steps
 pub mod WholeCalls
 pub mod PageCalls
 pub mod OpenPages
+pub mod Sealing
 pub mod Opening
 pub mod Replays

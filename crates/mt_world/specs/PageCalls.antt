@@ -11,7 +11,7 @@ use Rattle.mt_scan.specs.Units.{IsEntryOf}
 use Rattle.mt_scan.specs.Pages as pages
 use Rattle.mt_scan.specs.Streams.{Step, Runs, page_after, GoesOn}
 use Rattle.mt_world.specs.declared.actor.Answer.{Answer}
-use Rattle.mt_world.specs.declared.actor.Answer.TheVariants.{Written, Refused, Rows, Page}
+use Rattle.mt_world.specs.declared.actor.Answer.TheVariants.{Written, Refused, Rows, Page, Moved, Cleaned, NotSealed, NotMigrated}
 use Rattle.mt_world.specs.declared.actor.TurnFault.{TurnFault}
 use Rattle.mt_world.specs.declared.actor.TurnFault.TheVariants.{StoreFault, HistoryFull, NoMemory}
 use Rattle.mt_world.specs.Worlds.{WorldState, Tells, next_number, table_now}
@@ -82,6 +82,10 @@ IsPageAnswer page (Ok (Page whole)) = (whole ≡ page_of page) × (pages.is_over
 IsPageAnswer page (Ok (Written tags)) = ⊥
 IsPageAnswer page (Ok (Refused refusal)) = ⊥
 IsPageAnswer page (Ok (Rows rows)) = ⊥
+IsPageAnswer page (Ok Moved) = ⊥
+IsPageAnswer page (Ok Cleaned) = ⊥
+IsPageAnswer page (Ok NotSealed) = ⊥
+IsPageAnswer page (Ok (NotMigrated pk)) = ⊥
 IsPageAnswer page (Err fault) = Unit {0}
 
 -- what the turns of a page come to: units that follow one another, each with its entry

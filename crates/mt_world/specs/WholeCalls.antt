@@ -9,13 +9,13 @@ use Rattle.mt_history.specs.Kept.{has_room}
 use Rattle.mt_history.specs.Weight.{need_of_query}
 use Rattle.mt_world.specs.declared.actor.Actor.{Actor}
 use Rattle.mt_world.specs.declared.actor.Answer.{Answer}
-use Rattle.mt_world.specs.declared.actor.Answer.TheVariants.{Written, Refused, Rows, Page}
+use Rattle.mt_world.specs.declared.actor.Answer.TheVariants.{Written, Refused, Rows, Page, Moved, Cleaned, NotSealed, NotMigrated}
 use Rattle.mt_world.specs.declared.actor.Progress.{Progress}
 use Rattle.mt_world.specs.declared.actor.Progress.TheVariants.{More, Done}
 use Rattle.mt_world.specs.declared.actor.TurnFault.{TurnFault}
 use Rattle.mt_world.specs.declared.actor.TurnFault.TheVariants.{StoreFault, HistoryFull, NoMemory}
-use Rattle.mt_world.specs.Worlds.{WorldState, Tells}
-use Rattle.mt_world.specs.Moves.{NewEntry, IsAtBegin, turns_at_most, fault_entry}
+use Rattle.mt_world.specs.Worlds.{WorldState, Tells, KeepsApart}
+use Rattle.mt_world.specs.Moves.{NewEntry, IsAtBegin, turns_at_most, fault_entry, actor_facts}
 use Rattle.mt_world.specs.Logs.{entries_with}
 use Rattle.mt_world.specs.Turns.{Turns, IsSameWorld, RepliesAt, EitherRose, is_full}
 
@@ -44,11 +44,12 @@ Finishes [] w caller a r w' = ⊥
 Finishes (m ∷ []) w caller a r w' = (after : Actor) × MarkedTurn m w caller a (last_turn r) w' after
 Finishes (m ∷ next ∷ marks) w caller a r w' = (v : WorldState) × (b : Actor) × MarkedTurn m w caller a (Ok More) v b × Finishes (next ∷ marks) v caller b r w'
 
--- turns that end a call; one that begins takes few where both stores tell
+-- turns that end a client's call; one that begins takes few where both stores tell. What was true and apart from what the call knew is true at the end
 pub record EndsCall (w : WorldState) (caller : ℕ) (a : Actor) (r : Result Answer TurnFault) (w' : WorldState) : Type 0 where
   pub marks : List Mark
   pub turns : Finishes marks w caller a r w'
   pub few : IsAtBegin a → Tells w' → length marks ≤ turns_at_most a
+  pub keeps : KeepsApart w (actor_facts a) w' []
 
 -- ---- what a whole call comes to
 
@@ -64,12 +65,21 @@ batch_entry ops (Ok (Written tags)) = Some (record { what = what.Batch ops tags;
 batch_entry ops (Ok (Refused refusal)) = Some (record { what = what.Refused ops; reply = reply.Refused refusal })
 batch_entry ops (Ok (Rows rows)) = None
 batch_entry ops (Ok (Page page)) = None
+
+batch_entry ops (Ok Moved) = None
+batch_entry ops (Ok Cleaned) = None
+batch_entry ops (Ok NotSealed) = None
+batch_entry ops (Ok (NotMigrated pk)) = None
 batch_entry ops (Err fault) = entry_of_fault fault
 
 -- and a query
 abbrev pub query_entry : List ℕ → Option Filter → Result Answer TurnFault → Option NewEntry
 query_entry pk filter (Ok (Written tags)) = None
 query_entry pk filter (Ok (Refused refusal)) = None
+query_entry pk filter (Ok Moved) = None
+query_entry pk filter (Ok Cleaned) = None
+query_entry pk filter (Ok NotSealed) = None
+query_entry pk filter (Ok (NotMigrated part)) = None
 query_entry pk filter (Ok (Rows rows)) = Some (record { what = what.Query pk filter; reply = reply.Rows rows })
 query_entry pk filter (Ok (Page page)) = None
 query_entry pk filter (Err fault) = entry_of_fault fault

@@ -2,7 +2,9 @@
 #![tactic(auto)]
 
 mod actor;
+mod cleaning;
 mod log;
+mod moving;
 mod opening;
 mod page;
 mod query;

@@ -4,7 +4,8 @@ ghost use Rattle.mt_open.specs.Opening.{OpensPair};
 ghost use Rattle.mt_world.specs.Worlds.{IsWorld};
 ghost use Rattle.mt_world.specs.Replays.{CountsRows};
 ghost use Rattle.mt_world.specs.Opening.{Opened};
-ghost use Rattle.mt_world.specs.Moves.{CanStep, MayRequest, IsCallOf};
+ghost use Rattle.mt_world.specs.Moves.{CanStep, MayRequest, IsCallOf, retired_where};
+ghost use Rattle.mt_world.specs.Sealing.{SealsOld};
 ghost use Rattle.mt_world.specs.Turns.{Knows, Turned};
 ghost use Rattle.mt_world.specs.WholeCalls.{EndsCall};
 
@@ -83,6 +84,16 @@ impl<K: Keeper> Model for World<K> {
     }) };
 }
 
+/// Whether a world is retired after a turn that came to this: once a cleaner is done.
+fn retired_after(came: &Result<Progress, TurnFault>, retired: bool) -> bool
+    ensures { result ≡ retired_where came.now retired }
+{
+    match came {
+        Ok(Progress::Done(Answer::Cleaned)) => true,
+        _ => retired,
+    }
+}
+
 impl<K: Keeper> World<K> {
     /// Opens two stores, the one of number 0 as the old one and that of number 1 as the new one, with a
     /// history that may have so many entries, 1 to 1,048,576.
@@ -157,11 +168,14 @@ impl<K: Keeper> World<K> {
     }
 
     /// One turn of an actor: at most one store call, and then at most one entry. An answer or a fault
-    /// ends a client's call. A batch that was written is answered so: all memory is taken before.
+    /// ends a client's call. A batch that was written is answered so: all memory is taken before. A
+    /// migrator or cleaner stays where it is after a fault, and takes no further turn once it is done. The
+    /// world is retired once a cleaner is done.
     ///
-    /// Refused with `HistoryFull` exactly where the history has no room for an entry of the weight of
-    /// the call's batch or query, or for a page of 64, its filter's size and 4,096. The history takes in
-    /// order what was answered, each unit of a page, and that store calls failed.
+    /// Refused with `HistoryFull`, with nothing done, exactly where the history has no room for an entry
+    /// of the weight of the call's batch or query, for a page of 64, its filter's size and 4,096, or of 64
+    /// for a migrator or cleaner. The history takes in order what calls were answered, each unit of a
+    /// page, and that store calls failed.
     pub fn turn(
         &mut self,
         alloc: Global,
@@ -173,7 +187,20 @@ impl<K: Keeper> World<K> {
         ensures turns { Turned self.old caller actor.old result self.new actor.new }
         ensures world { IsWorld self.old }
     {
-        self.stage.turn(alloc, caller, actor)
+        let came = self.stage.turn(alloc, caller, actor);
+        self.retired = retired_after(&came, self.retired);
+        came
+    }
+
+    /// Seals the old store, in one turn: from now on no partition is born in it. What clients see stays,
+    /// and a sealed store stays sealed. A store call that failed leaves its entry.
+    ///
+    /// Refused with `HistoryFull`, with nothing done, exactly where the history has no room for an entry
+    /// of the weight 64.
+    pub fn seal_old(&mut self, alloc: Global, caller: u32) -> Result<(), TurnFault>
+        ensures { SealsOld self.old caller result self.new }
+    {
+        self.stage.seal_old(alloc, caller)
     }
 
     /// Takes turns until the call ends, with no other caller between them. A batch at its beginning

@@ -16,6 +16,10 @@ mod queries;
 #[cfg(test)]
 mod turns;
 #[cfg(test)]
+mod world_cleans;
+#[cfg(test)]
+mod world_moves;
+#[cfg(test)]
 mod world_pages;
 #[cfg(test)]
 mod world_queries;

@@ -1,14 +1,15 @@
 //! Worlds over two stores with a past, and what their calls are answered, as texts.
 ghost use Rattle.std.specs.Prelude.{◌≡◌};
 ghost use Rattle.mt_world.specs.Moves.{MayRequest};
+ghost use Rattle.mt_world.specs.Turns.{Knows};
 
 use mt_chain::PkFrom;
 use mt_history::{History, What};
 use mt_mem::MemKeeper;
 use mt_model::Entity;
 use mt_scan::{Page, Token};
-use mt_test_stores::{Past, store_of, tag_text};
-use mt_world::{Answer, Request, TurnFault, World};
+use mt_test_stores::{Past, rows_text, store_of, tag_text};
+use mt_world::{Actor, Answer, Request, TurnFault, World};
 use std::alloc::Global;
 use std::test::Fail;
 
@@ -55,6 +56,14 @@ pub fn answer_text(alloc: Global, answer: &Answer) -> Result<String, Fail> {
         Answer::Written(tags) => tag_text(alloc, tags.as_slice()),
         Answer::Rows(rows) => answered_rows(alloc, rows.as_slice()),
         Answer::Page(page) => page_text(alloc, page),
+
+        Answer::Moved => Ok(format!(in alloc; "moved ")?),
+        Answer::Cleaned => Ok(format!(in alloc; "cleaned ")?),
+        Answer::NotSealed => Ok(format!(in alloc; "not sealed ")?),
+        Answer::NotMigrated { pk } => {
+            let pk = pk.as_str();
+            Ok(format!(in alloc; "not migrated: {pk} ")?)
+        }
         Answer::Refused(refusal) => {
             let (index, cause) = (refusal.index, refusal.cause);
             Ok(format!(in alloc; "{cause:?} at {index} ")?)
@@ -128,6 +137,17 @@ pub fn world_of(alloc: Global, old: &[Past], new: &[Past]) -> Result<World<MemKe
     opened(alloc, old, new, 10)
 }
 
+/// What a caller's call came to, how many store calls were made by then, and how many rows there are.
+fn told(
+    alloc: Global,
+    world: &World<MemKeeper>,
+    outcome: &Result<Answer, TurnFault>,
+) -> Result<String, Fail> {
+    let text = outcome_text(alloc, outcome)?;
+    let (calls, rows) = (world.calls(), world.rows(alloc)?);
+    Ok(format!(in alloc; "{text}calls {calls} rows {rows}; ")?)
+}
+
 /// What a caller's call is answered, how many store calls were made by then, and how many rows there are.
 pub fn asked(
     alloc: Global,
@@ -139,7 +159,30 @@ pub fn asked(
 {
     let call = world.call_of(alloc, request)?;
     let outcome = world.finish(alloc, caller, call);
-    let text = outcome_text(alloc, &outcome)?;
-    let (calls, rows) = (world.calls(), world.rows(alloc)?);
-    Ok(format!(in alloc; "{text}calls {calls} rows {rows}; ")?)
+    told(alloc, world, &outcome)
+}
+
+/// The same of a call that another actor waits for, which still knows what it knew.
+pub fn asked_beside(
+    alloc: Global,
+    world: &mut World<MemKeeper>,
+    caller: u32,
+    request: Request,
+    other: &Actor,
+) -> Result<String, Fail>
+    requires request { MayRequest request }
+    requires beside { Knows world.old other.now }
+    ensures beside { Knows world.new other.now }
+{
+    let call = world.call_of(alloc, request)?;
+    let outcome = world.finish(alloc, caller, call);
+    told(alloc, world, &outcome)
+}
+
+/// What each store holds of a partition.
+pub fn stores_text(alloc: Global, world: World<MemKeeper>, pk: &str) -> Result<String, Fail> {
+    let mut stores = world.into_stores();
+    let old = rows_text(alloc, &mut stores.old, pk)?;
+    let new = rows_text(alloc, &mut stores.new, pk)?;
+    Ok(format!(in alloc; "old {old}new {new}")?)
 }

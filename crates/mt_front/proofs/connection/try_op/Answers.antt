@@ -1,5 +1,5 @@
 use Rattle.std.proofs.Common.{false, true, ◌≡◌, ◌∷◌, [], Ok, Err, refl, ap}
-use Rattle.mt_world.specs.declared.actor.Answer.TheVariants.{Written, Refused, Rows, Page}
+use Rattle.mt_world.specs.declared.actor.Answer.TheVariants.{Written, Refused, Rows, Page, Moved, Cleaned, NotSealed, NotMigrated}
 use Rattle.mt_world.specs.declared.actor.TurnFault.TheVariants.{StoreFault, HistoryFull, NoMemory}
 use Rattle.mt_front.specs.Items.{applied_entry}
 use Rattle.mt_front.specs.declared.connection.Outcome.TheVariants as outcome
@@ -58,4 +58,27 @@ pub unreachable-requires-in-Ok-Page : goal.unreachable-requires-in-Ok-Page
 unreachable-requires-in-Ok-Page g c =
     let k = called 0 c.args.world.now c.call_of.new.self c.finish.new.self c.args.op c.in_ok-batch.batch c.in_ok-call.call (Ok (Page c.in-Ok-Page.field-0-0)) c.in_ok-call.ensures.same c.in_ok-call.ensures.call c.in_ok-batch.ensures
     (rw c.in-Ok-Page.field-0-is at c.in-Ok-Page.ensures) in
+
+pub unreachable-in-Ok-Moved-requires : goal.unreachable-in-Ok-Moved-requires
+unreachable-in-Ok-Moved-requires g c =
+    let k = called 0 c.args.world.now c.call_of.new.self c.finish.new.self c.args.op c.in_ok-batch.batch c.in_ok-call.call (Ok Moved) c.in_ok-call.ensures.same c.in_ok-call.ensures.call c.in_ok-batch.ensures
+    (rw c.in-Ok-Moved.field-0-is at c.in-Ok-Moved.ensures) in
+    (let none : false ≡ true = k.answers.answered in absurd cc)
+
+pub unreachable-in-Ok-Cleaned-requires : goal.unreachable-in-Ok-Cleaned-requires
+unreachable-in-Ok-Cleaned-requires g c =
+    let k = called 0 c.args.world.now c.call_of.new.self c.finish.new.self c.args.op c.in_ok-batch.batch c.in_ok-call.call (Ok Cleaned) c.in_ok-call.ensures.same c.in_ok-call.ensures.call c.in_ok-batch.ensures
+    (rw c.in-Ok-Cleaned.field-0-is at c.in-Ok-Cleaned.ensures) in
+    (let none : false ≡ true = k.answers.answered in absurd cc)
+
+pub unreachable-in-Ok-NotSealed-requires : goal.unreachable-in-Ok-NotSealed-requires
+unreachable-in-Ok-NotSealed-requires g c =
+    let k = called 0 c.args.world.now c.call_of.new.self c.finish.new.self c.args.op c.in_ok-batch.batch c.in_ok-call.call (Ok NotSealed) c.in_ok-call.ensures.same c.in_ok-call.ensures.call c.in_ok-batch.ensures
+    (rw c.in-Ok-NotSealed.field-0-is at c.in-Ok-NotSealed.ensures) in
+    (let none : false ≡ true = k.answers.answered in absurd cc)
+
+pub unreachable-in-Ok-NotMigrated-requires : goal.unreachable-in-Ok-NotMigrated-requires
+unreachable-in-Ok-NotMigrated-requires g c =
+    let k = called 0 c.args.world.now c.call_of.new.self c.finish.new.self c.args.op c.in_ok-batch.batch c.in_ok-call.call (Ok (NotMigrated c.in-Ok-NotMigrated.pk)) c.in_ok-call.ensures.same c.in_ok-call.ensures.call c.in_ok-batch.ensures
+    (rw c.in-Ok-NotMigrated.field-0-is at c.in-Ok-NotMigrated.ensures) in
     (let none : false ≡ true = k.answers.answered in absurd cc)
