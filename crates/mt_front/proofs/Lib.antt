@@ -6,9 +6,9 @@ pub mod CauseLaws
 pub mod FitLaws
 mod OwnLaws
 mod RefusalLaws
-mod ReplyLaws
 mod RouteLaws
 mod SpellLaws
 mod TalkLaws
 mod TurnLaws
+mod WriteLaws
 mod Theorems

@@ -4,7 +4,6 @@ use Rattle.mt_model.specs.declared.key.Key.{Key}
 use Rattle.mt_model.specs.declared.key.KeyFault.{KeyFault}
 use Rattle.mt_model.specs.declared.value.Prop.{Prop}
 use Rattle.mt_model.specs.Key.{key_fault}
-use Rattle.mt_model.specs.Props.{visible_size}
 use Rattle.mt_json.specs.declared.read.Body.{Body}
 use Rattle.mt_json.specs.declared.read.JsonFault.{JsonFault}
 use Rattle.mt_json.specs.declared.read.KeyUse.TheVariants.{InBody, InTarget}
@@ -14,9 +13,7 @@ use Rattle.mt_chain.specs.declared.op.Cond.{Cond}
 use Rattle.mt_chain.specs.declared.op.Cond.TheVariants as cond
 use Rattle.mt_chain.specs.declared.op.Op.{Op}
 use Rattle.mt_chain.specs.declared.op.Op.TheVariants as op
-use Rattle.mt_chain.specs.Effect.{op_props}
 use Rattle.mt_chain.specs.Rows.{key_at}
-use Rattle.mt_rules.specs.Batches.{MayAsk}
 use Rattle.httparse.specs.Grammar.{RequestHead}
 use Rattle.mt_http_in.specs.declared.fields.Field.{Field}
 use Rattle.mt_http_in.specs.declared.requests.Incoming.{Incoming}
@@ -32,11 +29,11 @@ use Rattle.mt_front.specs.Routes.{IsRoute, IsMatch, prefers_no_content}
 use Rattle.mt_front.specs.declared.refusals.BadRequest.{BadRequest}
 use Rattle.mt_front.specs.declared.refusals.BadRequest.TheVariants.{NotImplemented, CompressedBody, MissingIfMatch, BadETag}
 use Rattle.mt_front.specs.declared.asks.Asked.{Asked}
-use Rattle.mt_front.specs.declared.asks.Asked.TheVariants.{Write, Refused}
-use Rattle.mt_front.specs.declared.asks.Echo.{Echo}
-use Rattle.mt_front.specs.declared.asks.Echo.TheVariants as echo
+use Rattle.mt_front.specs.declared.asks.Asked.TheVariants.{Refused}
+use Rattle.mt_mime.specs.declared.forms.Echo.{Echo}
+use Rattle.mt_mime.specs.declared.forms.Echo.TheVariants as echo
 use Rattle.mt_front.specs.Refusals.{key_refusal, body_refusal}
-use Rattle.mt_front.specs.Replies.{HasEcho}
+use Rattle.mt_front.specs.Changes.{alone}
 
 -- this refusal and nothing else; where there is none to tell, it cannot be
 abbrev pub IsRefused : Option BadRequest → Asked → Type 0
@@ -61,7 +58,7 @@ pub record BodyHasKeys (body : Body) (pk rk : List ℕ) : Type 0 where
 
 abbrev pub InsertBy : Bool → Result Body JsonFault → Asked → Type 0
 InsertBy no_content (Ok body) asked = (pk : List ℕ) × (rk : List ℕ) × BodyHasKeys body pk rk
-    × KeyedBy (key_fault pk rk) (asked ≡ Write (op.Insert (key_at pk rk) body.props) (insert_echo no_content)) asked
+    × KeyedBy (key_fault pk rk) (asked ≡ alone (op.Insert (key_at pk rk) body.props) (insert_echo no_content)) asked
 InsertBy no_content (Err fault) asked = IsRefused (body_refusal fault) asked
 
 abbrev pub AsksInsert : Bool → List ℕ → Asked → Type 0
@@ -96,7 +93,7 @@ merge_op (Some c) key props = op.Merge key props c
 
 -- a body without keys in it
 abbrev pub BodyBy : (List Prop → Op) → Result Body JsonFault → Asked → Type 0
-BodyBy make (Ok body) asked = asked ≡ Write (make body.props) echo.Plain
+BodyBy make (Ok body) asked = asked ≡ alone (make body.props) echo.Plain
 BodyBy make (Err fault) asked = IsRefused (body_refusal fault) asked
 
 abbrev pub AsksWith : (List Prop → Op) → List ℕ → Asked → Type 0
@@ -104,7 +101,7 @@ AsksWith make bytes asked = (read : Result Body JsonFault) × ReadsAs InTarget b
 
 abbrev pub AsksDelete : Option Cond → Key → Asked → Type 0
 AsksDelete None key asked = ⊥
-AsksDelete (Some c) key asked = asked ≡ Write (op.Delete key c) echo.Plain
+AsksDelete (Some c) key asked = asked ≡ alone (op.Delete key c) echo.Plain
 
 abbrev pub AsksAction : Action → Option Cond → Key → List ℕ → Asked → Type 0
 AsksAction Put c key bytes asked = AsksWith (put_op c key) bytes asked
@@ -162,8 +159,3 @@ AsksUnpacked false table q asked = RequestAsks table q asked
 -- what a whole request asks for
 abbrev pub WholeAsks : List ℕ → Request → Asked → Type 0
 WholeAsks table q asked = AsksUnpacked (is_packed q.fields) table q asked
-
--- the operation keeps the rules of a batch, the reply can show of it what is asked, and its properties have at most 1 MiB
-abbrev pub CanTry : Asked → Type 0
-CanTry (Write op echo) = MayAsk op × HasEcho echo op × (visible_size (op_props op) ≤ 1048576)
-CanTry (Refused r) = Unit {0}

@@ -1,7 +1,8 @@
+pub mod Writes
 pub mod Routes
 pub mod Refusals
+pub mod Changes
 pub mod Asks
-pub mod Replies
 pub mod Items
 pub mod Answers
 pub mod Spells

@@ -1,5 +1,5 @@
 -- Why requests are refused, and the replies that say so, with an error object of OData's JSON format.
-use Rattle.std.specs.Prelude.{◌≡◌, ℕ, ◌==◌, nat_eq, Bool, true, not, ◌&&◌, List, [], ◌∷◌, ◌++◌, codes, Option, Some, None, Result, Ok, Err}
+use Rattle.std.specs.Prelude.{◌≡◌, ℕ, ◌==◌, nat_eq, Bool, true, false, not, ◌&&◌, List, [], ◌∷◌, ◌++◌, codes, decimal, Option, Some, None, Result, Ok, Err}
 use Rattle.std.specs.Set.{is_member}
 use Rattle.mt_model.specs.declared.text.NoMemory.{NoMemory as NoRoom}
 use Rattle.mt_model.specs.declared.key.KeyFault.{KeyFault}
@@ -10,13 +10,18 @@ use Rattle.mt_json.specs.declared.read.JsonFault.{JsonFault}
 use Rattle.mt_json.specs.declared.read.JsonFault.TheVariants as json
 use Rattle.mt_chain.specs.declared.op.Cause.{Cause}
 use Rattle.mt_chain.specs.declared.op.Cause.TheVariants as cause
+use Rattle.mt_chain.specs.declared.op.Refusal.{Refusal}
+use Rattle.mt_rules.specs.declared.batch.BatchFault.{BatchFault}
+use Rattle.mt_rules.specs.declared.batch.BatchFault.TheVariants as batch
 use Rattle.mt_http_in.specs.declared.Code.{Code}
 use Rattle.mt_http_in.specs.declared.Code.TheVariants as head
 use Rattle.mt_http_out.specs.declared.reply.Reply.{Reply}
 use Rattle.mt_http_out.specs.declared.reply.ReplyField.{ReplyField}
 use Rattle.mt_http_out.specs.Rendering.{statuses, IsReply}
+use Rattle.mt_mime.specs.Replies.{accepted}
 use Rattle.mt_front.specs.declared.refusals.BadRequest.{BadRequest}
-use Rattle.mt_front.specs.declared.refusals.BadRequest.TheVariants.{InvalidHead, InvalidFraming, RequestBodyTooLarge, InvalidBody, CompressedBody, NotImplemented, MissingIfMatch, BadETag, KeyTooLong, KeyCharacter, InvalidJson, MissingKey, Double, BadName, BadType, TooManyProperties, PropertyTooLarge, EntityTooLarge}
+use Rattle.mt_front.specs.declared.refusals.BadPart.{BadPart}
+use Rattle.mt_front.specs.declared.refusals.BadRequest.TheVariants.{InvalidHead, InvalidFraming, RequestBodyTooLarge, InvalidBody, CompressedBody, NotImplemented, MissingIfMatch, BadETag, KeyTooLong, KeyCharacter, InvalidJson, MissingKey, Double, BadName, BadType, TooManyProperties, PropertyTooLarge, EntityTooLarge, EmptyBatch, TooManyOperations, BatchTooLarge, OtherPartition, EntityTwice}
 
 -- the refusal of what is no whole request, or of a whole one whose body is compressed
 abbrev pub head_refusal : Code → BadRequest
@@ -51,15 +56,28 @@ body_refusal (json.BadType name) = Some BadType
 body_refusal (json.Props fault) = props_refusal fault
 body_refusal json.NoMemory = None
 
+-- the refusal at an index of operations that are no batch; want of memory is none
+abbrev pub batch_refusal : BatchFault → Option BadPart
+batch_refusal batch.Empty = Some (record { index = 0; refusal = EmptyBatch })
+batch_refusal batch.TooMany = Some (record { index = 100; refusal = TooManyOperations })
+batch_refusal batch.TooLarge = Some (record { index = 0; refusal = BatchTooLarge })
+batch_refusal (batch.OtherPartition index) = Some (record { index = index; refusal = OtherPartition })
+batch_refusal (batch.Twice index) = Some (record { index = index; refusal = EntityTwice })
+batch_refusal batch.NoMemory = None
+
 -- ---- replies
 
 -- the error object of a code and a sentence
 abbrev pub error_object : List ℕ → List ℕ → List ℕ
 error_object code sentence = codes "{\"odata.error\":{\"code\":\"" ++ code ++ codes "\",\"message\":{\"lang\":\"en-US\",\"value\":\"" ++ sentence ++ codes "\"}}}"
 
+-- the body is of that media type
+abbrev pub type_field : List ℕ → ReplyField
+type_field media = record { name = codes "Content-Type"; value = media }
+
 -- the body is JSON
 abbrev pub json_type : ReplyField
-json_type = record { name = codes "Content-Type"; value = codes "application/json" }
+json_type = type_field (codes "application/json")
 
 -- a reply of that status with that error object, behind which the connection ends or goes on
 abbrev pub error_reply : ℕ → List ℕ → List ℕ → Bool → Reply
@@ -85,6 +103,11 @@ bad_code BadType = codes "BadType"
 bad_code TooManyProperties = codes "TooManyProperties"
 bad_code PropertyTooLarge = codes "PropertyTooLarge"
 bad_code EntityTooLarge = codes "EntityTooLarge"
+bad_code EmptyBatch = codes "EmptyBatch"
+bad_code TooManyOperations = codes "TooManyOperations"
+bad_code BatchTooLarge = codes "BatchTooLarge"
+bad_code OtherPartition = codes "OtherPartition"
+bad_code EntityTwice = codes "EntityTwice"
 
 -- its sentence
 abbrev pub bad_sentence : BadRequest → List ℕ
@@ -106,6 +129,11 @@ bad_sentence BadType = codes "A property value is not valid."
 bad_sentence TooManyProperties = codes "The entity has too many properties."
 bad_sentence PropertyTooLarge = codes "A property value is too large."
 bad_sentence EntityTooLarge = codes "The entity is too large."
+bad_sentence EmptyBatch = codes "The batch is empty."
+bad_sentence TooManyOperations = codes "The batch has too many operations."
+bad_sentence BatchTooLarge = codes "The batch is too large."
+bad_sentence OtherPartition = codes "The operation names another partition."
+bad_sentence EntityTwice = codes "The operation names an entity twice."
 
 -- its status
 abbrev pub bad_status : BadRequest → ℕ
@@ -127,17 +155,55 @@ bad_status BadType = 400
 bad_status TooManyProperties = 400
 bad_status PropertyTooLarge = 400
 bad_status EntityTooLarge = 400
+bad_status EmptyBatch = 400
+bad_status TooManyOperations = 400
+bad_status BatchTooLarge = 400
+bad_status OtherPartition = 400
+bad_status EntityTwice = 400
 
 abbrev pub bad_reply : BadRequest → Bool → Reply
 bad_reply r close = error_reply (bad_status r) (bad_code r) (bad_sentence r) close
 
+-- the reply to a change set whose one part is that error, with the index in decimal and a colon before the sentence
+abbrev pub error_part : ℕ → ℕ → List ℕ → List ℕ → Bool → Reply
+error_part index status code sentence close = accepted (error_reply status code (decimal index ++ (codes ":" ++ sentence)) false ∷ []) close
+
+-- the reply to a change set of which one request is refused before anything is tried
+abbrev pub part_reply : BadPart → Bool → Reply
+part_reply bad close = error_part bad.index (bad_status bad.refusal) (bad_code bad.refusal) (bad_sentence bad.refusal) close
+
+-- the status of a refusal by the table
+abbrev pub cause_status : Cause → ℕ
+cause_status cause.NotFound = 404
+cause_status cause.Exists = 409
+cause_status cause.ConditionFailed = 412
+cause_status cause.TooManyProperties = bad_status TooManyProperties
+cause_status cause.EntityTooLarge = bad_status EntityTooLarge
+
+-- its code
+abbrev pub cause_code : Cause → List ℕ
+cause_code cause.NotFound = codes "ResourceNotFound"
+cause_code cause.Exists = codes "EntityAlreadyExists"
+cause_code cause.ConditionFailed = codes "UpdateConditionNotSatisfied"
+cause_code cause.TooManyProperties = bad_code TooManyProperties
+cause_code cause.EntityTooLarge = bad_code EntityTooLarge
+
+-- its sentence
+abbrev pub cause_sentence : Cause → List ℕ
+cause_sentence cause.NotFound = codes "The specified resource does not exist."
+cause_sentence cause.Exists = codes "The specified entity already exists."
+cause_sentence cause.ConditionFailed = codes "The update condition was not satisfied."
+cause_sentence cause.TooManyProperties = bad_sentence TooManyProperties
+cause_sentence cause.EntityTooLarge = bad_sentence EntityTooLarge
+
 -- the reply to an operation that the table refuses
 abbrev pub cause_reply : Cause → Bool → Reply
-cause_reply cause.NotFound close = error_reply 404 (codes "ResourceNotFound") (codes "The specified resource does not exist.") close
-cause_reply cause.Exists close = error_reply 409 (codes "EntityAlreadyExists") (codes "The specified entity already exists.") close
-cause_reply cause.ConditionFailed close = error_reply 412 (codes "UpdateConditionNotSatisfied") (codes "The update condition was not satisfied.") close
-cause_reply cause.TooManyProperties close = bad_reply TooManyProperties close
-cause_reply cause.EntityTooLarge close = bad_reply EntityTooLarge close
+cause_reply cause close = error_reply (cause_status cause) (cause_code cause) (cause_sentence cause) close
+
+-- so alone, or in a change set
+abbrev pub refusal_reply : Bool → Refusal → Bool → Reply
+refusal_reply false refusal close = cause_reply refusal.cause close
+refusal_reply true refusal close = error_part refusal.index (cause_status refusal.cause) (cause_code refusal.cause) (cause_sentence refusal.cause) close
 
 -- the reply where a store failed
 abbrev pub fault_reply : Bool → Reply

@@ -6,49 +6,40 @@ ghost use Rattle.mt_model.specs.Name.{is_hidden};
 ghost use Rattle.mt_chain.specs.Rows.{key_at};
 ghost use Rattle.mt_chain.specs.declared.op.Op.TheVariants as op;
 ghost use Rattle.mt_front.specs.declared.routes.Route.TheVariants as route;
-ghost use Rattle.mt_front.specs.declared.asks.Asked.TheVariants as asked;
 ghost use Rattle.mt_front.specs.declared.routes.IfMatch.{IfMatch};
 ghost use Rattle.mt_front.specs.Routes.{IsMatch, prefers_no_content};
-ghost use Rattle.mt_front.specs.Asks.{BodyHasKeys, IsRefused, KeyedBy, InsertBy, AsksInsert, AsksAction, AsksWith, AsksOn, RequestAsks, request_of, CanTry, insert_echo, match_refusal, condition_of, put_op, merge_op};
+ghost use Rattle.mt_front.specs.Changes.{alone};
+ghost use Rattle.mt_front.specs.Asks.{BodyHasKeys, IsRefused, KeyedBy, InsertBy, AsksInsert, AsksAction, AsksWith, AsksOn, RequestAsks, request_of, insert_echo, match_refusal, condition_of, put_op, merge_op};
 
 #[cfg(test)]
 mod tests;
 
-use crate::refusals::{BadRequest, body_refusal, key_refusal};
+use crate::refusals::{BadPart, BadRequest, body_refusal, key_refusal};
 use crate::routes::{Action, IfMatch, Route, prefers_no_content, read_match, read_route};
+use crate::writes::{Writes, write_alone};
 use mt_chain::{Cond, Op};
 use mt_http_in::{Field, Incoming};
 use mt_json::{Body, KeyUse, Level, read_entity};
+use mt_mime::Echo;
 use mt_model::{Key, NoMemory, Props, Text};
 use std::alloc::Global;
-
-/// What the reply to a written row shows of it.
-#[derive(Clone, Copy, Debug, PartialEq, Eq)]
-pub enum Echo {
-    /// The entity at that level: 201.
-    Entity(Level),
-
-    /// Its tag, and that no content was wanted: 204.
-    NoContent,
-
-    /// Its tag, or nothing where the row went: 204.
-    Plain,
-}
 
 /// What a request asks for.
 #[derive(Drop)]
 pub enum Asked {
-    /// An operation on one row.
-    Write { op: Op, echo: Echo },
+    /// Operations that are tried together.
+    Write(Writes),
 
     /// Nothing that can be tried.
     Refused(BadRequest),
+
+    /// A change set of which one request cannot be tried.
+    RefusedPart(BadPart),
 }
 
 /// This refusal; where there is none to tell, there was no memory.
 fn refuse(refusal: Option<BadRequest>) -> Result<Asked, NoMemory>
-    ensures asks { IfOk result (IsRefused refusal) }
-    ensures may { IfOk result CanTry }
+    ensures { IfOk result (IsRefused refusal) }
 {
     match refusal {
         Some(refusal) => Ok(Asked::Refused(refusal)),
@@ -75,14 +66,10 @@ fn insert_at(
     props: Props,
 ) -> Result<Asked, NoMemory>
     requires { list_any (λ p. is_hidden p.name) props ≡ false }
-    ensures asks { IfOk result (λ a. KeyedBy (key_fault pk.now rk.now) (a ≡ asked.Write (op.Insert (key_at pk.now rk.now) props) (insert_echo no_content)) a) }
-    ensures may { IfOk result CanTry }
+    ensures { IfOk result (λ a. KeyedBy (key_fault pk.now rk.now) (a ≡ alone (op.Insert (key_at pk.now rk.now) props) (insert_echo no_content)) a) }
 {
     match Key::read(alloc, pk, rk) {
-        Ok(key) => Ok(Asked::Write {
-            op: Op::Insert { key, props },
-            echo: insert_echo(no_content),
-        }),
+        Ok(key) => write_alone(alloc, Op::Insert { key, props }, insert_echo(no_content)),
         Err(fault) => refuse(key_refusal(fault)),
     }
 }
@@ -91,8 +78,7 @@ fn insert_at(
 fn insert_of(alloc: Global, no_content: bool, body: Body) -> Result<Asked, NoMemory>
     requires keys { (pk rk : List ℕ) × BodyHasKeys body pk rk }
     requires visible { list_any (λ p. is_hidden p.name) body.props ≡ false }
-    ensures asks { IfOk result (InsertBy no_content (Ok body)) }
-    ensures may { IfOk result CanTry }
+    ensures { IfOk result (InsertBy no_content (Ok body)) }
 {
     let Body { pk, rk, props } = body;
     match (pk, rk) {
@@ -103,8 +89,7 @@ fn insert_of(alloc: Global, no_content: bool, body: Body) -> Result<Asked, NoMem
 
 /// What an insert with this body asks for.
 fn insert_by(alloc: Global, no_content: bool, bytes: &[u8]) -> Result<Asked, NoMemory>
-    ensures asks { IfOk result (AsksInsert no_content bytes.now) }
-    ensures may { IfOk result CanTry }
+    ensures { IfOk result (AsksInsert no_content bytes.now) }
 {
     match read_entity(alloc, bytes, KeyUse::InBody) {
         Ok(body) => insert_of(alloc, no_content, body),
@@ -159,14 +144,10 @@ fn merge_op(cond: Option<Cond>, key: Key, props: Props) -> Op
 /// What a put of this body to the row at a key asks for.
 fn put_by(alloc: Global, cond: Option<Cond>, key: Key, bytes: &[u8]) -> Result<Asked, NoMemory>
     requires { key_fault key.pk key.rk ≡ None }
-    ensures asks { IfOk result (AsksWith (put_op cond key) bytes.now) }
-    ensures may { IfOk result CanTry }
+    ensures { IfOk result (AsksWith (put_op cond key) bytes.now) }
 {
     match read_entity(alloc, bytes, KeyUse::InTarget) {
-        Ok(body) => Ok(Asked::Write {
-            op: put_op(cond, key, body.props),
-            echo: Echo::Plain,
-        }),
+        Ok(body) => write_alone(alloc, put_op(cond, key, body.props), Echo::Plain),
         Err(fault) => refuse(body_refusal(&fault)),
     }
 }
@@ -174,14 +155,10 @@ fn put_by(alloc: Global, cond: Option<Cond>, key: Key, bytes: &[u8]) -> Result<A
 /// What a merge of this body into the row at a key asks for.
 fn merge_by(alloc: Global, cond: Option<Cond>, key: Key, bytes: &[u8]) -> Result<Asked, NoMemory>
     requires { key_fault key.pk key.rk ≡ None }
-    ensures asks { IfOk result (AsksWith (merge_op cond key) bytes.now) }
-    ensures may { IfOk result CanTry }
+    ensures { IfOk result (AsksWith (merge_op cond key) bytes.now) }
 {
     match read_entity(alloc, bytes, KeyUse::InTarget) {
-        Ok(body) => Ok(Asked::Write {
-            op: merge_op(cond, key, body.props),
-            echo: Echo::Plain,
-        }),
+        Ok(body) => write_alone(alloc, merge_op(cond, key, body.props), Echo::Plain),
         Err(fault) => refuse(body_refusal(&fault)),
     }
 }
@@ -196,18 +173,14 @@ fn action_by(
 ) -> Result<Asked, NoMemory>
     requires key { key_fault key.pk key.rk ≡ None }
     requires matched { match_refusal action if_match ≡ None }
-    ensures asks { IfOk result (AsksAction action (condition_of if_match) key bytes.now) }
-    ensures may { IfOk result CanTry }
+    ensures { IfOk result (AsksAction action (condition_of if_match) key bytes.now) }
 {
     let cond = condition_of(if_match);
     match action {
         Action::Put => put_by(alloc, cond, key, bytes),
         Action::Merge => merge_by(alloc, cond, key, bytes),
         Action::Delete => match cond {
-            Some(cond) => Ok(Asked::Write {
-                op: Op::Delete { key, cond },
-                echo: Echo::Plain,
-            }),
+            Some(cond) => write_alone(alloc, Op::Delete { key, cond }, Echo::Plain),
             None => unreachable!(),
         },
     }
@@ -223,8 +196,7 @@ fn entity_by(
     rk: &str,
     bytes: &[u8],
 ) -> Result<Asked, NoMemory>
-    ensures asks { IfOk result (AsksOn (route.Entity action pk.now rk.now) if_match false bytes.now) }
-    ensures may { IfOk result CanTry }
+    ensures { IfOk result (AsksOn (route.Entity action pk.now rk.now) if_match false bytes.now) }
 {
     if let Some(refusal) = match_refusal(action, if_match) {
         return Ok(Asked::Refused(refusal));
@@ -237,8 +209,7 @@ fn entity_by(
 
 /// What a request of that route asks for.
 fn asked_on(alloc: Global, at: Route, fields: &[Field], bytes: &[u8]) -> Result<Asked, NoMemory>
-    ensures asks { IfOk result (λ a. (m : IfMatch) × IsMatch fields.now m × AsksOn at m (prefers_no_content fields.now) bytes.now a) }
-    ensures may { IfOk result CanTry }
+    ensures { IfOk result (λ a. (m : IfMatch) × IsMatch fields.now m × AsksOn at m (prefers_no_content fields.now) bytes.now a) }
 {
     let if_match = read_match(fields);
     match at {
@@ -260,8 +231,7 @@ fn asked_on(alloc: Global, at: Route, fields: &[Field], bytes: &[u8]) -> Result<
 /// to be there and to meet it. The operation's key keeps the rules of keys, it has no hidden property,
 /// and its properties have at most 1,048,576 bytes. The one error is want of memory.
 pub fn asked_by(alloc: Global, table: &Text, request: Incoming) -> Result<Asked, NoMemory>
-    ensures asks { IfOk result (RequestAsks table.now (request_of request)) }
-    ensures may { IfOk result CanTry }
+    ensures { IfOk result (RequestAsks table.now (request_of request)) }
 {
     let method = request.method.as_str().as_bytes();
     let target = request.target.as_str().as_bytes();

@@ -3,20 +3,23 @@
 ghost use Rattle.std.specs.Prelude.{◌≡◌, true, false, ◌∷◌, [], IfOk};
 ghost use Rattle.mt_json.specs.declared.read.JsonFault.TheVariants as json;
 ghost use Rattle.mt_json.specs.Body.{is_repeat};
-ghost use Rattle.mt_http_out.specs.Rendering.{bytes_of};
-ghost use Rattle.mt_front.specs.Refusals.{key_refusal, props_refusal, body_refusal, head_refusal, bad_status, bad_code, bad_sentence, error_object, json_type, error_reply, is_error_status, bad_reply, cause_reply, fault_reply, full_reply, memory_reply, Makes};
+ghost use Rattle.mt_http_out.specs.Rendering.{bytes_of, IsReply};
+ghost use Rattle.mt_mime.specs.Replies.{accepted};
+ghost use Rattle.mt_front.specs.Refusals.{key_refusal, props_refusal, body_refusal, head_refusal, batch_refusal, bad_status, bad_code, bad_sentence, error_object, type_field, error_reply, is_error_status, bad_reply, error_part, part_reply, cause_reply, cause_status, cause_code, cause_sentence, refusal_reply, fault_reply, full_reply, memory_reply, Makes};
 
-use mt_chain::Cause;
+use mt_chain::{Cause, Refusal};
 use mt_http_in::Code;
 use mt_http_out::{Reply, ReplyField, ReplyFields};
 use mt_json::JsonFault;
+use mt_mime::write_changes;
 use mt_model::{Blob, KeyFault, NoMemory, PropsFault, Text};
+use mt_rules::BatchFault;
 use std::alloc::Global;
 
 /// Why a request is refused before anything is tried, in the order in which the reasons are looked
 /// for; but for an insert the body comes before its keys. The first four end the connection, and all but
 /// the last of the six before the others are `mt_http_in`'s. The status is 400 where none is given. Of `Double`, `BadName` and `BadType` the one
-/// at the first name in byte order is told.
+/// at the first name in byte order is told. The last five are of change sets.
 #[derive(Clone, Copy, Debug, PartialEq, Eq)]
 pub enum BadRequest {
     /// No head of HTTP/1.1 within the limits (400).
@@ -72,6 +75,29 @@ pub enum BadRequest {
 
     /// The properties have more than 1,048,576 bytes together.
     EntityTooLarge,
+
+    /// A change set without operations.
+    EmptyBatch,
+
+    /// A change set of more than 100 operations.
+    TooManyOperations,
+
+    /// The keys and properties of a change set have more than 4,194,304 bytes together.
+    BatchTooLarge,
+
+    /// An operation is of another partition than the first of its change set.
+    OtherPartition,
+
+    /// An operation is on the row of an earlier one of its change set.
+    EntityTwice,
+}
+
+/// Why a request of a change set is refused before anything is tried, and which.
+#[derive(Clone, Copy, Debug, PartialEq, Eq)]
+pub struct BadPart {
+    /// Its place among them; the first has 0.
+    pub index: u32,
+    pub refusal: BadRequest,
 }
 
 /// The refusal of what is no whole request, or of one whose body is compressed.
@@ -127,6 +153,22 @@ pub fn body_refusal(fault: &JsonFault) -> Option<BadRequest>
     }
 }
 
+/// The refusal of operations that are no batch, at the index at which it is told; `None` of want of
+/// memory.
+pub fn batch_refusal(fault: BatchFault) -> Option<BadPart>
+    ensures { result ≡ batch_refusal fault }
+{
+    let (index, refusal) = match fault {
+        BatchFault::Empty => (0, BadRequest::EmptyBatch),
+        BatchFault::TooMany => (100, BadRequest::TooManyOperations),
+        BatchFault::TooLarge => (0, BadRequest::BatchTooLarge),
+        BatchFault::OtherPartition { index } => (index, BadRequest::OtherPartition),
+        BatchFault::Twice { index } => (index, BadRequest::EntityTwice),
+        BatchFault::NoMemory => return None,
+    };
+    Some(BadPart { index, refusal })
+}
+
 impl BadRequest {
     /// The status code of the reply.
     fn status(self) -> u16
@@ -149,7 +191,12 @@ impl BadRequest {
             | BadRequest::BadType
             | BadRequest::TooManyProperties
             | BadRequest::PropertyTooLarge
-            | BadRequest::EntityTooLarge => 400,
+            | BadRequest::EntityTooLarge
+            | BadRequest::EmptyBatch
+            | BadRequest::TooManyOperations
+            | BadRequest::BatchTooLarge
+            | BadRequest::OtherPartition
+            | BadRequest::EntityTwice => 400,
         }
     }
 
@@ -176,6 +223,11 @@ impl BadRequest {
             BadRequest::TooManyProperties => "TooManyProperties",
             BadRequest::PropertyTooLarge => "PropertyTooLarge",
             BadRequest::EntityTooLarge => "EntityTooLarge",
+            BadRequest::EmptyBatch => "EmptyBatch",
+            BadRequest::TooManyOperations => "TooManyOperations",
+            BadRequest::BatchTooLarge => "BatchTooLarge",
+            BadRequest::OtherPartition => "OtherPartition",
+            BadRequest::EntityTwice => "EntityTwice",
         }
     }
 
@@ -202,6 +254,11 @@ impl BadRequest {
             BadRequest::TooManyProperties => "The entity has too many properties.",
             BadRequest::PropertyTooLarge => "A property value is too large.",
             BadRequest::EntityTooLarge => "The entity is too large.",
+            BadRequest::EmptyBatch => "The batch is empty.",
+            BadRequest::TooManyOperations => "The batch has too many operations.",
+            BadRequest::BatchTooLarge => "The batch is too large.",
+            BadRequest::OtherPartition => "The operation names another partition.",
+            BadRequest::EntityTwice => "The operation names an entity twice.",
         }
     }
 }
@@ -216,14 +273,14 @@ fn error_object(alloc: Global, code: &str, sentence: &str) -> Result<Blob, NoMem
     Blob::of(alloc, text.as_bytes())
 }
 
-/// The fields of a reply whose body is JSON.
-fn json_fields(alloc: Global) -> Result<ReplyFields, NoMemory>
-    ensures { IfOk result (λ f. f ≡ json_type ∷ []) }
+/// The fields of a reply whose body is of that media type.
+fn typed(alloc: Global, media: &str) -> Result<ReplyFields, NoMemory>
+    ensures { IfOk result (λ f. f ≡ type_field media.now ∷ []) }
 {
     let mut fields = Vec::with_capacity(alloc, 1)?;
     fields.push(ReplyField {
         name: Text::of(alloc, "Content-Type")?,
-        value: Text::of(alloc, "application/json")?,
+        value: Text::of(alloc, media)?,
     })?;
     Ok(ReplyFields::of(fields))
 }
@@ -239,7 +296,7 @@ fn error_reply(
     requires { is_error_status status ≡ true }
     ensures { Makes (error_reply status code.now sentence.now close) result }
 {
-    let fields = json_fields(alloc)?;
+    let fields = typed(alloc, "application/json")?;
     let body = error_object(alloc, code, sentence)?;
     Ok(Reply {
         status,
@@ -263,35 +320,130 @@ pub fn bad_request(alloc: Global, refusal: BadRequest, close: bool) -> Result<Re
     )
 }
 
+/// The reply to a change set, whose one part is that reply: 202.
+fn accept(alloc: Global, part: Reply, close: bool) -> Result<Reply, NoMemory>
+    requires { IsReply part }
+    ensures { Makes (accepted (part ∷ []) close) result }
+{
+    let mut parts = Vec::with_capacity(alloc, 1)?;
+    parts.push(part)?;
+    let fields = typed(alloc, "multipart/mixed; boundary=batchresponse_1")?;
+    let body = write_changes(alloc, &parts)?;
+    Ok(Reply {
+        status: 202,
+        fields,
+        body,
+        close,
+    })
+}
+
+/// The reply to a change set whose one part is that error, with the index before its sentence.
+fn error_part(
+    alloc: Global,
+    index: u32,
+    status: u16,
+    code: &str,
+    sentence: &str,
+    close: bool,
+) -> Result<Reply, NoMemory>
+    requires { is_error_status status ≡ true }
+    ensures { Makes (error_part index status code.now sentence.now close) result }
+{
+    let sentence = format!(in alloc; "{index}:{sentence}")?;
+    let part = error_reply(alloc, status, code, &sentence, false)?;
+    accept(alloc, part, close)
+}
+
+/// The reply to a change set of which one request is refused before anything is tried: 202, whose one
+/// part is the refusal, with the index before its sentence.
+pub fn bad_part(alloc: Global, bad: BadPart, close: bool) -> Result<Reply, NoMemory>
+    ensures { Makes (part_reply bad close) result }
+{
+    let refusal = bad.refusal;
+    error_part(
+        alloc,
+        bad.index,
+        refusal.status(),
+        refusal.code(),
+        refusal.sentence(),
+        close,
+    )
+}
+
+/// The status code of the reply to an operation that the table refuses.
+fn cause_status(cause: Cause) -> u16
+    ensures { result ≡ cause_status cause }
+{
+    match cause {
+        Cause::NotFound => 404,
+        Cause::Exists => 409,
+        Cause::ConditionFailed => 412,
+        Cause::TooManyProperties => BadRequest::TooManyProperties.status(),
+        Cause::EntityTooLarge => BadRequest::EntityTooLarge.status(),
+    }
+}
+
+/// The code of its error object.
+fn cause_code(cause: Cause) -> &'static str
+    ensures { result.now ≡ cause_code cause }
+{
+    match cause {
+        Cause::NotFound => "ResourceNotFound",
+        Cause::Exists => "EntityAlreadyExists",
+        Cause::ConditionFailed => "UpdateConditionNotSatisfied",
+        Cause::TooManyProperties => BadRequest::TooManyProperties.code(),
+        Cause::EntityTooLarge => BadRequest::EntityTooLarge.code(),
+    }
+}
+
+/// The sentence of its error object.
+fn cause_sentence(cause: Cause) -> &'static str
+    ensures { result.now ≡ cause_sentence cause }
+{
+    match cause {
+        Cause::NotFound => "The specified resource does not exist.",
+        Cause::Exists => "The specified entity already exists.",
+        Cause::ConditionFailed => "The update condition was not satisfied.",
+        Cause::TooManyProperties => BadRequest::TooManyProperties.sentence(),
+        Cause::EntityTooLarge => BadRequest::EntityTooLarge.sentence(),
+    }
+}
+
 /// The reply to an operation that the table refuses: 404, 409, 412 or 400.
 pub fn cause_reply(alloc: Global, cause: Cause, close: bool) -> Result<Reply, NoMemory>
     ensures { Makes (cause_reply cause close) result }
 {
-    match cause {
-        Cause::NotFound => error_reply(
-            alloc,
-            404,
-            "ResourceNotFound",
-            "The specified resource does not exist.",
-            close,
-        ),
-        Cause::Exists => error_reply(
-            alloc,
-            409,
-            "EntityAlreadyExists",
-            "The specified entity already exists.",
-            close,
-        ),
-        Cause::ConditionFailed => error_reply(
-            alloc,
-            412,
-            "UpdateConditionNotSatisfied",
-            "The update condition was not satisfied.",
-            close,
-        ),
-        Cause::TooManyProperties => bad_request(alloc, BadRequest::TooManyProperties, close),
-        Cause::EntityTooLarge => bad_request(alloc, BadRequest::EntityTooLarge, close),
+    error_reply(
+        alloc,
+        cause_status(cause),
+        cause_code(cause),
+        cause_sentence(cause),
+        close,
+    )
+}
+
+/// The reply to an operation that the table refuses, alone or of a change set. Of a change set it is
+/// 202, whose one part is the reply to it alone, with the index of the operation before its sentence.
+pub fn refusal_reply(
+    alloc: Global,
+    change_set: bool,
+    refusal: Refusal,
+    close: bool,
+) -> Result<Reply, NoMemory>
+    ensures { Makes (refusal_reply change_set refusal close) result }
+{
+    let cause = refusal.cause;
+    if !change_set {
+        return cause_reply(alloc, cause, close);
     }
+    error_part(
+        alloc,
+        refusal.index,
+        cause_status(cause),
+        cause_code(cause),
+        cause_sentence(cause),
+        close,
+    )
 }
 
 /// The reply where a store failed: 500.

@@ -1,8 +1,10 @@
-use super::{Asked, Echo, asked_by};
+use super::{Asked, asked_by};
 use crate::refusals::BadRequest;
+use crate::writes::Writes;
 use mt_chain::{Cond, Op};
 use mt_http_in::{Field, Fields, Incoming};
 use mt_json::Level;
+use mt_mime::Echo;
 use mt_model::{Blob, Key, Name, Prop, Props, Tag, Text, Value};
 use std::alloc::Global;
 use std::test::Fail;
@@ -28,6 +30,9 @@ enum Got {
     InsertOrReplace,
     InsertOrMerge,
     Refused(BadRequest),
+
+    /// Operations of another number than one, or a change set.
+    Other,
 }
 
 const TAG: Tag = Tag { store: 1, n: 7 };
@@ -98,10 +103,18 @@ fn op_shortly(op: &Op, echo: Echo) -> Got {
     }
 }
 
+fn writes_shortly(writes: &Writes) -> Got {
+    match (writes.is_change_set(), writes.ops(), writes.echoes()) {
+        (false, [op], [echo]) => op_shortly(op, *echo),
+        _ => Got::Other,
+    }
+}
+
 fn shortly(asked: &Asked) -> Got {
     match asked {
         Asked::Refused(refusal) => Got::Refused(*refusal),
-        Asked::Write { op, echo } => op_shortly(op, *echo),
+        Asked::Write(writes) => writes_shortly(writes),
+        Asked::RefusedPart(_) => Got::Other,
     }
 }
 
