@@ -5,6 +5,7 @@ mod CameLaws
 pub mod CauseLaws
 pub mod FitLaws
 mod OwnLaws
+mod ReadLaws
 mod RefusalLaws
 mod RouteLaws
 mod SpellLaws

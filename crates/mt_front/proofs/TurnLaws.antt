@@ -1,6 +1,6 @@
 -- How a request was answered, and what one turn of a session did.
 use Rattle.std.proofs.Common.{◌≡◌, ℕ, ◌≤◌, Bool, true, false, not, List, [], ◌++◌, Ok, Err, refl, sym, ap, ◌∙◌, arith, subst, append_assoc, inl, inr}
-use Rattle.std.specs.Prelude.{Result, Some, None}
+use Rattle.std.specs.Prelude.{Result, Some, None, IfOk}
 use Rattle.httparse.specs.Grammar.{RequestHead, print_request}
 use Rattle.mt_io.specs.Ends.{Input, Output, Rose, before_known, after_known}
 use Rattle.mt_io.proofs.Pieces.{after_after, before_before}
@@ -85,6 +85,13 @@ module _ (c : ℕ) (w w' : WorldState) (o x : Output) where
   tried_said asks q keep out bytes r need undone tries shows reply =
       answered_or asks keep (tried_item asks out keep tries.0 bytes) r tries.0 refl refl (tries.1.came asks keep bytes need) (tries.1.caused asks keep bytes) tries.1.added
       (shows tries.0 tries.1.left) (tried_off c w w' q out tries.0 asks need undone tries.1) reply
+
+  -- so for a reply that may have been made
+  pub tried_made : (asks : Asked) (q : Request) (keep : Bool) (out : Outcome) (made : Result Reply NoRoom) (r : Result (Unit {0}) ConnFault) → need_of asks ≡ Some (room_for q) → IsUndone out → Tries c w q (Ok out) w'
+      → IfOk made (λ reply. (marks : List Mark) → entries_of marks ≡ left_by q out → Renders asks (outcome_of out) marks (not keep) (bytes_of reply)) → SaysMade o made r x → AnswersOne c w o asks keep r w' x
+  tried_made asks q keep out (Ok reply) r need undone tries shows said = tried_said asks q keep out (bytes_of reply) r need undone tries shows said
+  tried_made asks q keep out (Err none) r need undone tries shows said =
+      subst (λ v. AnswersOne c w o asks keep v w' x) (sym said.0) (record { faults_out = subst (λ (z : Output). o.faults ≤ z.faults) (sym said.1) (let le : o.faults ≤ o.faults = omega arith in le); answers = (tries.0, tried_off c w w' q out tries.0 asks need undone tries.1, said.1) })
 
   pub tried_answered : (asks : Asked) (q : Request) (keep : Bool) (out : Outcome) (bytes : List ℕ) (r : Result (Unit {0}) ConnFault) → need_of asks ≡ Some (room_for q) → Tries c w q (Ok out) w'
       → ((marks : List Mark) → entries_of marks ≡ left_by q out → Renders asks (outcome_of out) marks (not keep) bytes) → WritesReply o bytes r x → AnswersOne c w o asks keep r w' x

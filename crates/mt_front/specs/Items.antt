@@ -7,6 +7,8 @@ use Rattle.mt_model.specs.declared.entity.Entity.{Entity}
 use Rattle.mt_chain.specs.declared.op.Op.{Op}
 use Rattle.mt_chain.specs.declared.op.Refusal.{Refusal}
 use Rattle.mt_chain.specs.Batch.{batch_weight}
+use Rattle.mt_filter.specs.declared.filter.Filter.{Filter}
+use Rattle.mt_history.specs.Weight.{need_of_query}
 use Rattle.mt_history.specs.declared.entry.What.TheVariants as what
 use Rattle.mt_history.specs.declared.model.Reply.TheVariants as reply
 use Rattle.mt_http_out.specs.declared.reply.Reply.{Reply}
@@ -15,6 +17,8 @@ use Rattle.mt_mime.specs.Replies.{Answers}
 use Rattle.mt_front.specs.declared.asks.Asked.{Asked}
 use Rattle.mt_front.specs.declared.asks.Asked.TheVariants as asked
 use Rattle.mt_front.specs.Writes.{Writing}
+use Rattle.mt_front.specs.declared.reads.Read.{Read}
+use Rattle.mt_front.specs.Reads.{ShowsRows}
 use Rattle.mt_front.specs.Refusals.{bad_reply, part_reply, refusal_reply, fault_reply, full_reply}
 use Rattle.mt_world.specs.Moves.{NewEntry, fault_entry}
 use Rattle.mt_world.specs.WholeCalls.{Mark}
@@ -61,6 +65,7 @@ faults_of items = length (filter (λ i. is_fault i.outcome) items)
 -- the room in the history that each turn of what is asked needs; what is refused takes no turn
 abbrev pub need_of : Asked → Option ℕ
 need_of (asked.Write w) = Some (batch_weight w.ops)
+need_of (asked.Read q) = Some (need_of_query q.pk q.filter)
 need_of (asked.Refused r) = None
 need_of (asked.RefusedPart r) = None
 
@@ -73,6 +78,10 @@ applied_entry batch tags = record { what = what.Batch batch tags; reply = reply.
 -- the entry that a batch leaves which the table refused
 abbrev pub refused_entry : List Op → Refusal → NewEntry
 refused_entry batch refusal = record { what = what.Refused batch; reply = reply.Refused refusal }
+
+-- the entry that a query leaves which found these rows
+abbrev pub found_entry : List ℕ → Option Filter → List Entity → NewEntry
+found_entry pk filter rows = record { what = what.Query pk filter; reply = reply.Rows rows }
 
 -- the entries that turns left
 abbrev pub entries_of : List Mark → List NewEntry
@@ -91,6 +100,19 @@ RendersWrite w (Found rows) marks close bytes = ⊥
 RendersWrite w Fault marks close bytes = (entries_of marks ≡ fault_entry ∷ []) × (bytes ≡ bytes_of (fault_reply close))
 RendersWrite w Full marks close bytes = (entries_of marks ≡ []) × (bytes ≡ bytes_of (full_reply close))
 
+-- the bytes are the reply that shows the rows which a read found
+abbrev pub IsFoundReply : Read → List Entity → Bool → List ℕ → Type 0
+IsFoundReply q rows close bytes = (r : Reply) × ShowsRows q.shape q.show rows close r × (bytes ≡ bytes_of r)
+
+-- a read came out so, with these marks; and the bytes are the reply, which shows what their entry replies
+abbrev pub RendersRead : Read → ItemOutcome → List Mark → Bool → List ℕ → Type 0
+RendersRead q Bad marks close bytes = ⊥
+RendersRead q (Done tags) marks close bytes = ⊥
+RendersRead q (Refused refusal) marks close bytes = ⊥
+RendersRead q (Found rows) marks close bytes = (entries_of marks ≡ found_entry q.pk q.filter rows ∷ []) × IsFoundReply q rows close bytes
+RendersRead q Fault marks close bytes = (entries_of marks ≡ fault_entry ∷ []) × (bytes ≡ bytes_of (fault_reply close))
+RendersRead q Full marks close bytes = (entries_of marks ≡ []) × (bytes ≡ bytes_of (full_reply close))
+
 -- what is refused took no turn, and the bytes are this reply
 abbrev pub RendersBad : Reply → ItemOutcome → List Mark → List ℕ → Type 0
 RendersBad r Bad marks bytes = (marks ≡ []) × (bytes ≡ bytes_of r)
@@ -103,6 +125,7 @@ RendersBad r Full marks bytes = ⊥
 -- what is asked came out so, with these marks; and the bytes are the reply, which ends the connection or not
 abbrev pub Renders : Asked → ItemOutcome → List Mark → Bool → List ℕ → Type 0
 Renders (asked.Write w) outcome marks close bytes = RendersWrite w outcome marks close bytes
+Renders (asked.Read q) outcome marks close bytes = RendersRead q outcome marks close bytes
 Renders (asked.Refused r) outcome marks close bytes = RendersBad (bad_reply r close) outcome marks bytes
 Renders (asked.RefusedPart r) outcome marks close bytes = RendersBad (part_reply r close) outcome marks bytes
 

@@ -1,6 +1,7 @@
 pub mod Writes
 pub mod Routes
 pub mod Refusals
+pub mod Reads
 pub mod Changes
 pub mod Asks
 pub mod Items

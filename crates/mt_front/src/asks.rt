@@ -14,6 +14,7 @@ ghost use Rattle.mt_front.specs.Asks.{BodyHasKeys, IsRefused, KeyedBy, InsertBy,
 #[cfg(test)]
 mod tests;
 
+use crate::reads::Read;
 use crate::refusals::{BadPart, BadRequest, body_refusal, key_refusal};
 use crate::routes::{Action, IfMatch, Route, prefers_no_content, read_match, read_route};
 use crate::writes::{Writes, write_alone};
@@ -29,6 +30,9 @@ use std::alloc::Global;
 pub enum Asked {
     /// Operations that are tried together.
     Write(Writes),
+
+    /// Rows.
+    Read(Read),
 
     /// Nothing that can be tried.
     Refused(BadRequest),

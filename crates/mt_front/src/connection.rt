@@ -7,6 +7,7 @@ ghost use Rattle.mt_front.specs.Refusals.{bad_reply};
 ghost use Rattle.mt_front.specs.Turns.{Tries, WritesReply, SaysReply, SaysMade, Converses, AnswersOne, AnswersRequest, AnswersFault, RefusesAs, turn_behind, turn_refused, served_of, SessionTurn};
 
 use crate::asks::{Asked, asked_by};
+use crate::reads::{Read, rows_reply};
 use crate::refusals::{
     BadRequest, bad_part, bad_request, head_refusal, history_full, no_memory, refusal_reply,
     store_fault,
@@ -177,6 +178,36 @@ fn write_rows<K: Keeper, T: Sink>(
     }
 }
 
+/// Reads rows and writes the reply that shows them.
+fn read_rows<K: Keeper, T: Sink>(
+    alloc: Global,
+    world: &mut World<K>,
+    out: &mut Vec<u8>,
+    sink: &mut T,
+    read: Read,
+    keep: bool,
+) -> Result<(), ConnFault>
+    ensures { AnswersOne 0 world.old (T.output sink.old) (asked.Read read) keep result world.new (T.output sink.new) }
+{
+    let close = !keep;
+    let Read {
+        pk,
+        filter,
+        shape,
+        show,
+    } = read;
+    match try_request(alloc, world, Request::Query { pk, filter }) {
+        Ok(Outcome::Done(_)) => unreachable!(),
+        Ok(Outcome::Refused(_)) => unreachable!(),
+        Ok(Outcome::Found(rows)) => {
+            send_reply(out, sink, rows_reply(alloc, shape, &show, rows.as_slice(), close))
+        }
+        Ok(Outcome::Fault) => send_reply(out, sink, store_fault(alloc, close)),
+        Ok(Outcome::Full) => send_reply(out, sink, history_full(alloc, close)),
+        Err(NoMemory) => Err(ConnFault::NoMemory),
+    }
+}
+
 /// Answers what is asked for.
 fn answer<K: Keeper, T: Sink>(
     alloc: Global,
@@ -190,6 +221,7 @@ fn answer<K: Keeper, T: Sink>(
 {
     match asks {
         Asked::Write(writes) => write_rows(alloc, world, out, sink, writes, keep),
+        Asked::Read(read) => read_rows(alloc, world, out, sink, read, keep),
         Asked::Refused(refusal) => send_refusal(alloc, out, sink, refusal, !keep),
         Asked::RefusedPart(bad) => send_reply(out, sink, bad_part(alloc, bad, !keep)),
     }

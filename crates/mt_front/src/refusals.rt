@@ -273,15 +273,22 @@ fn error_object(alloc: Global, code: &str, sentence: &str) -> Result<Blob, NoMem
     Blob::of(alloc, text.as_bytes())
 }
 
+/// A field of that name and value.
+pub fn field(alloc: Global, name: &str, value: &str) -> Result<ReplyField, NoMemory>
+    ensures { IfOk result (λ f. f ≡ record { name = name.now; value = value.now }) }
+{
+    Ok(ReplyField {
+        name: Text::of(alloc, name)?,
+        value: Text::of(alloc, value)?,
+    })
+}
+
 /// The fields of a reply whose body is of that media type.
-fn typed(alloc: Global, media: &str) -> Result<ReplyFields, NoMemory>
+pub fn typed(alloc: Global, media: &str) -> Result<ReplyFields, NoMemory>
     ensures { IfOk result (λ f. f ≡ type_field media.now ∷ []) }
 {
     let mut fields = Vec::with_capacity(alloc, 1)?;
-    fields.push(ReplyField {
-        name: Text::of(alloc, "Content-Type")?,
-        value: Text::of(alloc, media)?,
-    })?;
+    fields.push(field(alloc, "Content-Type", media)?)?;
     Ok(ReplyFields::of(fields))
 }
 

@@ -114,7 +114,7 @@ fn shortly(asked: &Asked) -> Got {
     match asked {
         Asked::Refused(refusal) => Got::Refused(*refusal),
         Asked::Write(writes) => writes_shortly(writes),
-        Asked::RefusedPart(_) => Got::Other,
+        Asked::Read(_) | Asked::RefusedPart(_) => Got::Other,
     }
 }
 
