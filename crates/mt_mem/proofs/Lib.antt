@@ -1,8 +1,8 @@
 mod RewriteLaws
-mod EntryLaws
-mod EditLaws
+pub mod EntryLaws
+pub mod EditLaws
 mod PassLaws
 mod PlanLaws
-mod AnswerLaws
+pub mod AnswerLaws
 pub mod TagLaws
-mod MemoryLaws
+pub mod MemoryLaws

@@ -10,7 +10,7 @@ use mt_model::{NoMemory, Text};
 use std::alloc::Global;
 
 /// A copy of a row.
-fn copy_row(alloc: Global, row: &StoredRow) -> Result<StoredRow, NoMemory>
+pub fn copy_row(alloc: Global, row: &StoredRow) -> Result<StoredRow, NoMemory>
     ensures { IfOk result (λ r. r ≡ row.now) }
 {
     Ok(StoredRow {

@@ -31,7 +31,7 @@ fn has_tag(tag: Tag, row: Option<&StoredRow>) -> bool
 }
 
 /// Whether a put holds on the row at its key.
-fn holds(put: &Put, row: Option<&StoredRow>) -> bool
+pub fn holds(put: &Put, row: Option<&StoredRow>) -> bool
     ensures { result ≡ holds put.now (option_map stored (option_copied row.entry)) }
 {
     match put {

@@ -62,14 +62,14 @@ pub fn has_partition(rows: &[Row], pk: &Text) -> bool
 }
 
 /// Whether a row comes before the range of a partition that begins there.
-fn is_before(pk: &Text, from: &RkFrom, row: &Row) -> bool
+pub fn is_before(pk: &Text, from: &RkFrom, row: &Row) -> bool
     ensures { result ≡ is_before pk.now from.now (entry row.now).0 }
 {
     row.0 < *pk || (row.0 == *pk && !from.admits(&row.1.rk))
 }
 
 /// Whether a row does not come past the range of a partition that ends there.
-fn is_not_past(pk: &Text, upto: &Option<Text>, row: &Row) -> bool
+pub fn is_not_past(pk: &Text, upto: &Option<Text>, row: &Row) -> bool
     ensures { result ≡ is_not_past pk.now upto.now (entry row.now).0 }
 {
     row.0 < *pk || (row.0 == *pk && is_upto(upto, &row.1.rk))

@@ -1,10 +1,12 @@
-//! A store in memory that begins with two rows.
-ghost use Rattle.std.specs.Prelude.{◌≡◌, IsTrue};
-ghost use Rattle.mt_mem.specs.Memory.{IsGiven};
+//! Stores in memory that begin with two rows.
+ghost use Rattle.std.specs.Prelude.{◌≡◌, IsTrue, IfOk};
+ghost use Rattle.mt_mem.specs.Entries.{entries};
+ghost use Rattle.mt_mem.specs.Memory.{AreRows, IsGiven};
 
 use mt_chain::{Row, StoredRow};
 use mt_mem::MemKeeper;
 use mt_model::{Tag, Text};
+use mt_paged::PagedKeeper;
 use std::alloc::Global;
 use std::test::Fail;
 
@@ -28,6 +30,27 @@ fn unkeyed(row: Row) -> (Text, StoredRow)
     (key.pk, row)
 }
 
+/// Two rows of a store of that number and counter.
+fn two_rows(
+    alloc: Global,
+    number: u32,
+    counter: u64,
+    first: Row,
+    second: Row,
+) -> Result<Vec<(Text, StoredRow)>, Fail>
+    ensures { IfOk result (λ rows. AreRows number counter (entries rows.items)) }
+{
+    let (a, b) = (first.1.tag, second.1.tag);
+    let rise = first.0.order(&second.0).is_lt();
+    if !rise || !is_given(number, counter, a) || !is_given(number, counter, b) || a.n == b.n {
+        return Err(Fail::new("no rows of a store"));
+    }
+    let mut rows = Vec::new(alloc);
+    rows.push(unkeyed(first))?;
+    rows.push(unkeyed(second))?;
+    Ok(rows)
+}
+
 /// A store of that number and counter with two rows, of which the listed calls fail.
 pub fn with_two(
     alloc: Global,
@@ -37,13 +60,19 @@ pub fn with_two(
     second: Row,
     failing: Vec<u64>,
 ) -> Result<MemKeeper, Fail> {
-    let (a, b) = (first.1.tag, second.1.tag);
-    let rise = first.0.order(&second.0).is_lt();
-    if !rise || !is_given(number, counter, a) || !is_given(number, counter, b) || a.n == b.n {
-        return Err(Fail::new("no rows of a store"));
-    }
-    let mut rows = Vec::new(alloc);
-    rows.push(unkeyed(first))?;
-    rows.push(unkeyed(second))?;
+    let rows = two_rows(alloc, number, counter, first, second)?;
     Ok(MemKeeper::with_rows(number, rows, counter, false, failing))
+}
+
+/// The same with its rows in pages.
+pub fn paged_with_two(
+    alloc: Global,
+    number: u32,
+    counter: u64,
+    first: Row,
+    second: Row,
+    failing: Vec<u64>,
+) -> Result<PagedKeeper, Fail> {
+    let rows = two_rows(alloc, number, counter, first, second)?;
+    Ok(PagedKeeper::with_rows(alloc, number, rows, counter, false, failing)?)
 }

@@ -141,13 +141,14 @@ const PAST_THE_END: [Case; 2] = [
 #[test]
 fn judges_and_makes_puts(rt: HostRuntime) -> Result<(), Fail> {
     let alloc = rt.alloc();
-    let mut keeper = store_of(alloc, TWO_ROWS, 4, &[3, 5])?;
+    let mut both = store_of(alloc, TWO_ROWS, 4, &[3, 5])?;
     for cases in [&FAILING[..], &CHANGES[..]] {
-        if let Some(got) = first_wrong(alloc, &mut keeper, cases)? {
+        if let Some(got) = first_wrong(alloc, &mut both, cases)? {
             assert!(rt; false, "{got}");
         }
     }
-    assert!(rt; keeper.number() == 0 && keeper.counter() == 15);
+    assert!(rt; both.listed.number() == 0 && both.listed.counter() == 15);
+    assert!(rt; both.paged.number() == 0 && both.paged.counter() == 15);
     Ok(())
 }
 
@@ -158,8 +159,8 @@ fn fails_at_the_end_of_its_counter(rt: HostRuntime) -> Result<(), Fail> {
         ((1 << 62) - 1, &AT_THE_END[..]),
         (u64::MAX, &PAST_THE_END[..]),
     ] {
-        let mut keeper = store_of(alloc, TWO_ROWS, counter, &[])?;
-        if let Some(got) = first_wrong(alloc, &mut keeper, cases)? {
+        let mut both = store_of(alloc, TWO_ROWS, counter, &[])?;
+        if let Some(got) = first_wrong(alloc, &mut both, cases)? {
             assert!(rt; false, "{got}");
         }
     }

@@ -4,10 +4,11 @@ ghost use Rattle.std.specs.List.{IsDistinct};
 ghost use Rattle.mt_chain.specs.Puts.{CanApply, row_key};
 ghost use Rattle.mt_chain.proofs.PutLaws.{is_named};
 
-use crate::stores::with_two;
+use crate::stores::{paged_with_two, with_two};
 use mt_chain::{Put, Puts, Row, Stored};
 use mt_mem::MemKeeper;
 use mt_model::{Key, Name, Prop, Props, Tag, Text, Value};
+use mt_paged::PagedKeeper;
 use std::alloc::Global;
 use std::test::Fail;
 
@@ -19,7 +20,7 @@ pub fn key(alloc: Global, key: char) -> Result<Text, Fail> {
 }
 
 /// One number as a property.
-fn props(alloc: Global, n: i32) -> Result<Props, Fail> {
+pub fn props(alloc: Global, n: i32) -> Result<Props, Fail> {
     let mut list = Vec::new(alloc);
     let name = Name::read(alloc, "n")?;
     list.push(Prop {
@@ -29,7 +30,7 @@ fn props(alloc: Global, n: i32) -> Result<Props, Fail> {
     Ok(Props::build(alloc, list)?)
 }
 
-fn tag(n: u64) -> Tag {
+pub fn tag(n: u64) -> Tag {
     Tag { store: 0, n }
 }
 
@@ -84,7 +85,7 @@ fn is_named(puts: &[Put], rk: &Text) -> bool
 }
 
 /// Adds a put of a row that none of the others names.
-fn add(puts: &mut Vec<Put>, put: Put) -> Result<(), Fail>
+pub fn add(puts: &mut Vec<Put>, put: Put) -> Result<(), Fail>
     requires { IsDistinct bytes_eq (map row_key puts.old.items) }
     ensures apart { OnOk result (IsDistinct bytes_eq (map row_key puts.new.items)) }
     ensures more { OnOk result (length puts.new.items ≡ length puts.old.items + 1) }
@@ -108,6 +109,21 @@ pub fn puts_of(alloc: Global, asks: &[Ask]) -> Result<Puts, Fail>
         add(&mut puts, put_of(alloc, *ask)?)?;
     }
     Ok(Puts::of(puts))
+}
+
+/// The one put of a call.
+pub fn one(alloc: Global, put: Put) -> Result<Puts, Fail>
+    ensures { IfOk result CanApply }
+{
+    let mut puts = Vec::new(alloc);
+    puts.push(put)?;
+    Ok(Puts::of(puts))
+}
+
+/// The row key of a number below 9,000, in the order of numbers.
+pub fn numbered(alloc: Global, n: u64) -> Result<Text, Fail> {
+    let n = n.saturating_add(1000);
+    Ok(Text::from_string(format!(in alloc; "{n}")?))
 }
 
 /// A row: the characters of its keys, its number, and the number of its tag.
@@ -143,8 +159,22 @@ fn row_of(alloc: Global, line: Line) -> Result<Row, Fail> {
     Ok((Key { pk, rk }, Stored { props, tag }))
 }
 
-/// Store 0 with two rows, after so many tags, of which the listed calls fail.
-pub fn store_of(
+/// Two stores of the same rows, one with its rows in a list and one with its rows in pages.
+#[derive(Drop)]
+pub struct Both {
+    pub listed: MemKeeper,
+    pub paged: PagedKeeper,
+}
+
+/// Store 0 without rows.
+pub fn empty(alloc: Global) -> Result<Both, Fail> {
+    Ok(Both {
+        listed: MemKeeper::new(alloc, 0, Vec::new(alloc)),
+        paged: PagedKeeper::new(alloc, 0, Vec::new(alloc))?,
+    })
+}
+
+fn listed_of(
     alloc: Global,
     lines: [Line; 2],
     counter: u64,
@@ -154,4 +184,29 @@ pub fn store_of(
     let second = row_of(alloc, lines[1])?;
     let failing = Vec::from_slice(alloc, failing)?;
     with_two(alloc, 0, counter, first, second, failing)
+}
+
+fn paged_of(
+    alloc: Global,
+    lines: [Line; 2],
+    counter: u64,
+    failing: &[u64],
+) -> Result<PagedKeeper, Fail> {
+    let first = row_of(alloc, lines[0])?;
+    let second = row_of(alloc, lines[1])?;
+    let failing = Vec::from_slice(alloc, failing)?;
+    paged_with_two(alloc, 0, counter, first, second, failing)
+}
+
+/// Store 0 with two rows, after so many tags, of which the listed calls fail.
+pub fn store_of(
+    alloc: Global,
+    lines: [Line; 2],
+    counter: u64,
+    failing: &[u64],
+) -> Result<Both, Fail> {
+    Ok(Both {
+        listed: listed_of(alloc, lines, counter, failing)?,
+        paged: paged_of(alloc, lines, counter, failing)?,
+    })
 }

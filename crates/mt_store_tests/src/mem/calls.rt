@@ -5,9 +5,8 @@
 ghost use Rattle.std.specs.Prelude.{◌≤◌, IfOk};
 ghost use Rattle.mt_chain.specs.StoreCall.{CanQuery};
 
-use crate::mem::build::{Ask, key, puts_of};
+use crate::mem::build::{Ask, Both, key, puts_of};
 use mt_chain::{Found, KeepFault, Keeper, PkFrom, Range, RangeQuery, RkFrom, StoredRows, Tags};
-use mt_mem::MemKeeper;
 use mt_model::{Text, Texts, Value};
 use std::alloc::Global;
 use std::test::Fail;
@@ -49,7 +48,7 @@ fn told(alloc: Global, fault: KeepFault) -> Result<String, Fail> {
 }
 
 /// What `apply` answered, as tags or as the fault.
-fn words(alloc: Global, answer: &Result<Tags, KeepFault>) -> Result<String, Fail> {
+pub fn words(alloc: Global, answer: &Result<Tags, KeepFault>) -> Result<String, Fail> {
     let mut text = String::new(alloc);
     match answer {
         Err(fault) => return told(alloc, *fault),
@@ -89,14 +88,19 @@ fn answer(alloc: Global, found: &Found) -> Result<String, Fail> {
 }
 
 /// What a store answers to these puts, as tags or as the fault.
-fn applied(alloc: Global, keeper: &mut MemKeeper, pk: char, asks: &[Ask]) -> Result<String, Fail> {
+fn applied<K: Keeper>(
+    alloc: Global,
+    keeper: &mut K,
+    pk: char,
+    asks: &[Ask],
+) -> Result<String, Fail> {
     let puts = puts_of(alloc, asks)?;
     let pk = key(alloc, pk)?;
     words(alloc, &keeper.apply(alloc, &pk, &puts))
 }
 
 /// Asks for one row and for the first rows of a range.
-fn query(
+pub fn query(
     alloc: Global,
     pk: Text,
     name: Text,
@@ -121,9 +125,9 @@ fn query(
 }
 
 /// What a query of a row and of a range finds, as text, or the fault.
-fn asked(
+fn asked<K: Keeper>(
     alloc: Global,
-    keeper: &mut MemKeeper,
+    keeper: &mut K,
     pk: char,
     name: char,
     range: (Begin, Option<char>, u32),
@@ -145,7 +149,12 @@ fn asked(
 }
 
 /// The next partition after a place, if there is one, and whether the store is sealed; or the fault.
-fn walked(alloc: Global, keeper: &mut MemKeeper, past: bool, pk: char) -> Result<String, Fail> {
+pub fn walked<K: Keeper>(
+    alloc: Global,
+    keeper: &mut K,
+    past: bool,
+    pk: char,
+) -> Result<String, Fail> {
     let pk = key(alloc, pk)?;
     let at = if past {
         PkFrom::After(pk)
@@ -164,7 +173,7 @@ fn walked(alloc: Global, keeper: &mut MemKeeper, past: bool, pk: char) -> Result
     }
 }
 
-fn sealed(alloc: Global, keeper: &mut MemKeeper) -> Result<String, Fail> {
+fn sealed<K: Keeper>(alloc: Global, keeper: &mut K) -> Result<String, Fail> {
     match keeper.seal(alloc) {
         Ok(()) => Ok(String::from_str(alloc, "done")?),
         Err(fault) => told(alloc, fault),
@@ -172,7 +181,7 @@ fn sealed(alloc: Global, keeper: &mut MemKeeper) -> Result<String, Fail> {
 }
 
 /// What a store answers to a call, as text.
-fn called(alloc: Global, keeper: &mut MemKeeper, call: Call) -> Result<String, Fail> {
+fn called<K: Keeper>(alloc: Global, keeper: &mut K, call: Call) -> Result<String, Fail> {
     match call {
         Call::Apply(pk, asks) => applied(alloc, keeper, pk, asks),
         Call::Query(pk, name, begin, upto, limit) => asked(
@@ -188,15 +197,23 @@ fn called(alloc: Global, keeper: &mut MemKeeper, call: Call) -> Result<String, F
     }
 }
 
-/// The first answer that is not the one wanted.
-pub fn first_wrong(
-    alloc: Global,
-    keeper: &mut MemKeeper,
-    cases: &[Case],
-) -> Result<Option<String>, Fail> {
+/// An answer of either store that is not the one wanted.
+fn wrong(alloc: Global, both: &mut Both, call: Call, want: &str) -> Result<Option<String>, Fail> {
+    let listed = called(alloc, &mut both.listed, call)?;
+    if listed.as_str() != want {
+        return Ok(Some(listed));
+    }
+    let paged = called(alloc, &mut both.paged, call)?;
+    if paged.as_str() != want {
+        return Ok(Some(paged));
+    }
+    Ok(None)
+}
+
+/// The first answer of either store that is not the one wanted.
+pub fn first_wrong(alloc: Global, both: &mut Both, cases: &[Case]) -> Result<Option<String>, Fail> {
     for (call, want) in cases {
-        let got = called(alloc, keeper, *call)?;
-        if got.as_str() != *want {
+        if let Some(got) = wrong(alloc, both, *call, want)? {
             return Ok(Some(got));
         }
     }

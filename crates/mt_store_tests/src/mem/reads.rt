@@ -1,6 +1,5 @@
-use crate::mem::build::Ask;
+use crate::mem::build::{Ask, empty};
 use crate::mem::calls::{Begin, Call, Case, first_wrong};
-use mt_mem::MemKeeper;
 use std::test::Fail;
 
 /// Of two partitions, rows by their keys and in ranges, and the partitions one after another.
@@ -67,8 +66,8 @@ const READS: [Case; 17] = [
 #[test]
 fn answers_reads(rt: HostRuntime) -> Result<(), Fail> {
     let alloc = rt.alloc();
-    let mut keeper = MemKeeper::new(alloc, 0, Vec::new(alloc));
-    if let Some(got) = first_wrong(alloc, &mut keeper, &READS)? {
+    let mut both = empty(alloc)?;
+    if let Some(got) = first_wrong(alloc, &mut both, &READS)? {
         assert!(rt; false, "{got}");
     }
     Ok(())

@@ -24,8 +24,8 @@ const SEALED: [Case; 9] = [
 #[test]
 fn takes_no_birth_once_it_is_sealed(rt: HostRuntime) -> Result<(), Fail> {
     let alloc = rt.alloc();
-    let mut keeper = store_of(alloc, TWO_ROWS, 4, &[])?;
-    if let Some(got) = first_wrong(alloc, &mut keeper, &SEALED)? {
+    let mut both = store_of(alloc, TWO_ROWS, 4, &[])?;
+    if let Some(got) = first_wrong(alloc, &mut both, &SEALED)? {
         assert!(rt; false, "{got}");
     }
     Ok(())

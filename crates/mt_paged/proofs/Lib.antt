@@ -1,0 +1,10 @@
+mod PageLaws
+mod PagesLaws
+mod SheetLaws
+mod FrontLaws
+mod FirstLaws
+mod HomeLaws
+mod KeyedLaws
+mod PastLaws
+mod WalkLaws
+mod SizeLaws

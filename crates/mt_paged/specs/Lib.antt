@@ -1,0 +1,5 @@
+pub mod Pages
+pub mod Fronts
+pub mod Keyed
+pub mod Walks
+pub mod Paged
