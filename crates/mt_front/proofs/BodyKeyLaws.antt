@@ -18,7 +18,7 @@ use Rattle.mt_json.specs.declared.read.JsonFault.TheVariants.{BadType, MissingKe
 use Rattle.mt_json.specs.declared.read.KeyUse.TheVariants.{InBody}
 use Rattle.mt_json.specs.Kind.{kind_in}
 use Rattle.mt_json.specs.Body.{key_name, is_key, is_ignored, is_null, gives_nothing, early_fault, Gives, AllGive, missing_part, missing_key, key_text, IsBody, MembersGive, GivesBody, ReadsAs}
-use Rattle.mt_front.specs.Asks.{BodyHasKeys}
+use Rattle.mt_front.specs.Changes.{BodyHasKeys}
 
 same_name : (a b : List ℕ) → slice_cmp nat_cmp a b ≡ Equal → a ≡ b
 same_name a b e = text_true a b (texts_ties a b ∙ ap is_eq e)

@@ -1,8 +1,7 @@
--- What the turns of a whole call say beside its answer: a written batch has one tag for each operation, and a store that tells told before.
+-- What the turns of a whole call say: its answer, one tag for each operation of a batch that was written, and that a store that tells told before.
 use Rattle.std.proofs.Common.{◌≡◌, ℕ, Bool, true, false, List, [], ◌∷◌, length, Option, Some, None, Ok, Err, refl, ap, sym, ◌∙◌, subst, inl, inr}
-use Rattle.std.specs.Prelude.{Result, is_some}
+use Rattle.std.specs.Prelude.{Result, is_some, OnOk, IsSome}
 use Rattle.mt_model.specs.declared.tag.Tag.{Tag}
-use Rattle.mt_chain.specs.declared.op.Op.{Op}
 use Rattle.mt_chain.specs.declared.ask.Ask.{Ask}
 use Rattle.mt_chain.specs.declared.ask.Side.{Side}
 use Rattle.mt_chain.specs.declared.ask.Side.TheVariants.{Old, New}
@@ -16,6 +15,10 @@ use Rattle.mt_batch_plan.specs.declared.call.BatchProgress.{BatchProgress}
 use Rattle.mt_batch_plan.specs.declared.call.BatchProgress.TheVariants as batch
 use Rattle.mt_batch_plan.specs.declared.place.Place.TheVariants.{ReadOld}
 use Rattle.mt_batch_plan.specs.Calls.{Call, Absorbs}
+use Rattle.mt_query_plan.specs.declared.place.Place.TheVariants as query_place
+use Rattle.mt_query_plan.specs.Queries as queries
+use Rattle.mt_world.specs.declared.actor.Request.{Request}
+use Rattle.mt_world.specs.declared.actor.Request.TheVariants as request
 use Rattle.mt_world.specs.declared.actor.Actor.{Actor}
 use Rattle.mt_world.specs.declared.actor.Actor.TheVariants.{Client}
 use Rattle.mt_world.specs.declared.actor.ClientCall.{ClientCall}
@@ -27,15 +30,24 @@ use Rattle.mt_world.specs.declared.actor.Progress.TheVariants.{More, Done}
 use Rattle.mt_world.specs.declared.actor.TurnFault.{TurnFault}
 use Rattle.mt_world.specs.declared.actor.TurnFault.TheVariants.{StoreFault, HistoryFull, NoMemory}
 use Rattle.mt_world.specs.Worlds.{WorldState}
-use Rattle.mt_world.specs.Moves.{NewEntry, Move, BatchMoves, batch_move}
+use Rattle.mt_world.specs.Moves.{NewEntry, Move, BatchMoves, IsCallOf, batch_move}
 use Rattle.mt_world.specs.Turns.{CallsOn, NoCall, Moves, stage_of}
-use Rattle.mt_world.specs.WholeCalls.{Mark, Finishes, EndsCall, BatchAnswers, last_turn}
+use Rattle.mt_world.specs.WholeCalls.{Mark, Finishes, EndsCall, CallAnswers, last_turn}
 use Rattle.mt_world.proofs.StageLaws.{written_at_write}
-use Rattle.mt_world.proofs.FinishLaws.{goes_on, batch_answers}
+use Rattle.mt_world.proofs.FinishLaws.{goes_on, batch_answers, query_answers}
+use Rattle.mt_front.specs.declared.connection.Outcome.{Outcome}
+use Rattle.mt_front.specs.declared.connection.Outcome.TheVariants as outcome
+use Rattle.mt_front.specs.Items.{is_fault}
 use Rattle.mt_front.specs.Session.{ToldBefore, counts_of}
-use Rattle.mt_front.proofs.CameLaws.{told_then}
+use Rattle.mt_front.specs.Turns.{LeavesNothing, Tries, IsOwn, room_for, entry_by, answer_of, outcome_of}
+use Rattle.mt_front.proofs.CameLaws.{told_then, tried, left_none}
 
 -- ---- tags
+
+-- a batch that was written has as many tags as operations
+abbrev pub TagsFit : Request → List Tag → Type 0
+TagsFit (request.Batch ops) tags = length tags ≡ length ops
+TagsFit (request.Query pk filter) tags = Unit {0}
 
 written_now : (call to : Call) (answer : StoreReply) (said : BatchProgress) (tags : List Tag) → Absorbs call.batch call.place answer (Ok said) to.place → Done (Written tags) ≡ (batch_move to said).progress → length tags ≡ length call.batch
 written_now call to answer batch.More tags a e = absurd cc
@@ -123,26 +135,68 @@ finishes_still [] w c a r w' e f = absurd f
 finishes_still (m ∷ []) w c a r w' e f = moved_still w w' a f.0 (last_turn r) m.entry (failed_last r ∙ e) f.1.turn.moves
 finishes_still (m ∷ next ∷ marks) w c a r w' e f = finishes_still (next ∷ marks) f.0 c f.1 r w' e f.3 ∙ moved_still w f.0 a f.1 (Ok More) m.entry refl f.2.turn.moves
 
--- ---- a batch of one operation, from its call on
+-- ---- a request, from its call on
 
--- what a finished call of one operation says
-pub record Called (c : ℕ) (w : WorldState) (op : Op) (r : Result Answer TurnFault) (w' : WorldState) : Type 0 where
+-- what a finished call of a request says
+pub record Called (c : ℕ) (w : WorldState) (q : Request) (r : Result Answer TurnFault) (w' : WorldState) : Type 0 where
   pub marks : List Mark
-  pub answers : BatchAnswers w c (op ∷ []) marks r w'
+  pub answers : CallAnswers w c (room_for q) (entry_by q r) marks r w'
   pub told : ToldBefore w w'
   pub still : has_failed r ≡ false → counts_of w' ≡ counts_of w
-  pub tags : (tags : List Tag) → r ≡ Ok (Written tags) → length tags ≡ 1
+  pub tags : (tags : List Tag) → r ≡ Ok (Written tags) → TagsFit q tags
 
-call_answers : (c : ℕ) (w w' : WorldState) (op : Op) (call : Call) (r : Result Answer TurnFault) → call.batch ≡ op ∷ [] → EndsCall w c (Client (client.Batch call)) r w' → Called c w op r w'
-call_answers c w w' op call r ops ends = record {
+batch_called : (c : ℕ) (w w' : WorldState) (call : Call) (r : Result Answer TurnFault) → EndsCall w c (Client (client.Batch call)) r w' → Called c w (request.Batch call.batch) r w'
+batch_called c w w' call r ends = record {
   marks = ends.marks;
-  answers = subst (λ l. BatchAnswers w c l ends.marks r w') ops (batch_answers ends.marks w w' c call r ends.turns);
+  answers = batch_answers ends.marks w w' c call r ends.turns;
   told = finishes_told ends.marks w c (Client (client.Batch call)) r w' ends.turns;
   still = λ e. finishes_still ends.marks w c (Client (client.Batch call)) r w' e ends.turns;
-  tags = λ tags is. tags_each ends.marks w c call tags w' (subst (λ v. Finishes ends.marks w c (Client (client.Batch call)) v w') is ends.turns) ∙ ap length ops;
+  tags = λ tags is. tags_each ends.marks w c call tags w' (subst (λ v. Finishes ends.marks w c (Client (client.Batch call)) v w') is ends.turns);
 }
 
-pub called : (c : ℕ) (w u w' : WorldState) (op : Op) (ops : List Op) (call : ClientCall) (r : Result Answer TurnFault)
-    → u ≡ w → call ≡ client.Batch (record { batch = ops; place = ReadOld }) → ops ≡ op ∷ [] → EndsCall u c (Client call) r w' → Called c w op r w'
-called c w u w' op ops call r same call_is ops_are ends =
-    call_answers c w w' op (record { batch = ops; place = ReadOld }) r ops_are (subst (λ v. EndsCall v c (Client (client.Batch (record { batch = ops; place = ReadOld }))) r w') same (subst (λ n. EndsCall u c (Client n) r w') call_is ends))
+query_called : (c : ℕ) (w w' : WorldState) (call : queries.Call) (r : Result Answer TurnFault) → EndsCall w c (Client (client.Query call)) r w' → Called c w (request.Query call.pk call.filter) r w'
+query_called c w w' call r ends = record {
+  marks = ends.marks;
+  answers = query_answers ends.marks w w' c call r ends.turns;
+  told = finishes_told ends.marks w c (Client (client.Query call)) r w' ends.turns;
+  still = λ e. finishes_still ends.marks w c (Client (client.Query call)) r w' e ends.turns;
+  tags = λ tags is. tt;
+}
+
+called : (c : ℕ) (w w' : WorldState) (q : Request) (call : ClientCall) (r : Result Answer TurnFault) → IsCallOf q call → EndsCall w c (Client call) r w' → Called c w q r w'
+called c w w' (request.Batch ops) call r is ends =
+    batch_called c w w' (record { batch = ops; place = ReadOld }) r (subst (λ n. EndsCall w c (Client n) r w') is ends)
+called c w w' (request.Query pk filter) call r is ends =
+    query_called c w w' (record { pk = pk; filter = filter; place = query_place.ReadOld }) r (subst (λ n. EndsCall w c (Client n) r w') is ends)
+
+-- an answer is one that the request can have
+own_by : (q : Request) (o : Outcome) → OnOk (answer_of o) (IsSome (entry_by q (answer_of o))) → ((tags : List Tag) → answer_of o ≡ Ok (Written tags) → TagsFit q tags) → IsOwn q o
+own_by (request.Batch ops) (outcome.Done tags) answered fit = fit tags refl
+own_by (request.Batch ops) (outcome.Refused refusal) answered fit = tt
+own_by (request.Batch ops) (outcome.Found rows) answered fit = absurd (let none : false ≡ true = answered in cc)
+own_by (request.Batch ops) outcome.Fault answered fit = tt
+own_by (request.Batch ops) outcome.Full answered fit = tt
+own_by (request.Query pk filter) (outcome.Done tags) answered fit = absurd (let none : false ≡ true = answered in cc)
+own_by (request.Query pk filter) (outcome.Refused refusal) answered fit = absurd (let none : false ≡ true = answered in cc)
+own_by (request.Query pk filter) (outcome.Found rows) answered fit = tt
+own_by (request.Query pk filter) outcome.Fault answered fit = tt
+own_by (request.Query pk filter) outcome.Full answered fit = tt
+
+no_failure : (o : Outcome) → is_fault (outcome_of o) ≡ false → has_failed (answer_of o) ≡ false
+no_failure (outcome.Done tags) e = refl
+no_failure (outcome.Refused refusal) e = refl
+no_failure (outcome.Found rows) e = refl
+no_failure outcome.Fault e = absurd cc
+no_failure outcome.Full e = refl
+
+-- a request was called, and came to this
+pub tried_as : (c : ℕ) (w u w' : WorldState) (q : Request) (call : ClientCall) (o : Outcome) → u ≡ w → IsCallOf q call → EndsCall u c (Client call) (answer_of o) w' → Tries c w q (Ok o) w'
+tried_as c w u w' q call o same is ends =
+    let k = called c w w' q call (answer_of o) is (subst (λ v. EndsCall v c (Client call) (answer_of o) w') same ends) in
+    (k.marks, tried c w w' q o k.marks k.told k.answers (own_by q o k.answers.answered k.tags) (λ e. k.still (no_failure o e)))
+
+-- so where there was no memory
+pub tried_in_vain : (c : ℕ) (w u w' : WorldState) (q : Request) (call : ClientCall) → u ≡ w → IsCallOf q call → EndsCall u c (Client call) (Err NoMemory) w' → LeavesNothing w w'
+tried_in_vain c w u w' q call same is ends =
+    let k = called c w w' q call (Err NoMemory) is (subst (λ v. EndsCall v c (Client call) (Err NoMemory) w') same ends) in
+    left_none c w w' q k.marks k.told k.answers (k.still refl)

@@ -1,14 +1,15 @@
-mod AskLaws
 mod BodyKeyLaws
 mod CallLaws
 mod CameLaws
+mod ChangeLaws
+mod ChangeSetLaws
 pub mod CauseLaws
-mod FieldLaws
 pub mod FitLaws
 mod OwnLaws
+mod ReadLaws
 mod RefusalLaws
-mod ReplyLaws
 mod SpellLaws
 mod TalkLaws
 mod TurnLaws
+mod WriteLaws
 mod Theorems

@@ -1,6 +1,6 @@
 -- How a request was answered, and what one turn of a session did.
 use Rattle.std.proofs.Common.{◌≡◌, ℕ, ◌≤◌, Bool, true, false, not, List, [], ◌++◌, Ok, Err, refl, sym, ap, ◌∙◌, arith, subst, append_assoc, inl, inr}
-use Rattle.std.specs.Prelude.{Result, Some}
+use Rattle.std.specs.Prelude.{Result, Some, None, IfOk}
 use Rattle.httparse.specs.Grammar.{RequestHead, print_request}
 use Rattle.mt_io.specs.Ends.{Input, Output, Rose, before_known, after_known}
 use Rattle.mt_io.proofs.Pieces.{after_after, before_before}
@@ -16,7 +16,7 @@ use Rattle.mt_http_in.specs.Requests.{ReadsRequest, HoldsRequest, Got, Packed, C
 use Rattle.mt_http_in.specs.Requests as http
 use Rattle.mt_world.specs.Worlds.{WorldState}
 use Rattle.mt_world.specs.WholeCalls.{Mark}
-use Rattle.mt_chain.specs.declared.op.Op.{Op}
+use Rattle.mt_world.specs.declared.actor.Request.{Request}
 use Rattle.mt_model.specs.declared.text.NoMemory.{NoMemory as NoRoom}
 use Rattle.mt_http_out.specs.declared.reply.Reply.{Reply}
 use Rattle.mt_http_out.specs.Rendering.{bytes_of}
@@ -24,22 +24,19 @@ use Rattle.mt_front.specs.declared.refusals.BadRequest.{BadRequest}
 use Rattle.mt_front.specs.declared.refusals.BadRequest.TheVariants as bad
 use Rattle.mt_front.specs.declared.asks.Asked.{Asked}
 use Rattle.mt_front.specs.declared.asks.Asked.TheVariants as asked
-use Rattle.mt_front.specs.declared.asks.Echo.{Echo}
 use Rattle.mt_front.specs.declared.connection.Outcome.{Outcome}
-use Rattle.mt_front.specs.declared.connection.Outcome.TheVariants as outcome
 use Rattle.mt_front.specs.declared.connection.End.TheVariants.{BadInput}
 use Rattle.mt_front.specs.declared.connection.ConnFault.{ConnFault}
 use Rattle.mt_front.specs.declared.connection.ConnFault.TheVariants.{ReadFault, WriteFault, NoMemory}
 use Rattle.mt_front.specs.declared.connection.Turn.{Turn}
 use Rattle.mt_front.specs.declared.connection.Turn.TheVariants.{Ended}
-use Rattle.mt_front.specs.Refusals.{head_refusal, bad_reply, cause_reply, fault_reply, full_reply, Makes}
-use Rattle.mt_front.specs.Replies.{IsDoneReply}
+use Rattle.mt_front.specs.Refusals.{head_refusal, bad_reply, Makes}
 use Rattle.mt_front.specs.Asks.{RequestAsks, AsksUnpacked, request_by, request_of}
-use Rattle.mt_front.specs.Items.{Item, Bad, Renders, IsRendered, entries_of}
+use Rattle.mt_front.specs.Items.{Item, Bad, Renders, IsRendered, need_of, entries_of}
 use Rattle.mt_front.specs.Answers.{IsCaused}
 use Rattle.mt_front.specs.Session.{Sent, Cut, counts_of, Added, IsSaid}
-use Rattle.mt_front.specs.Turns.{CameOut, Tries, outcome_of, tried_item, left_by, WritesReply, RepliedAs, SaysReply, SaysMade, BrokeOff, Answering, AnswersAs, AnswersOne, AnswersWhole, AnswersWholeAs, AnswersRequest, RefusesAs, FaultedAs, AnswersFault, OneMore, IsRefusal, StarvedAt, TurnAs, SessionTurn, turn_behind, turn_refused, refusal_bytes, LeavesNothing}
-use Rattle.mt_front.proofs.CameLaws.{same_self, told_self, came_bad, caused_bad, left_nothing, IsUndone, tried_off, added_self}
+use Rattle.mt_front.specs.Turns.{CameOut, Tries, room_for, outcome_of, tried_item, left_by, WritesReply, RepliedAs, SaysReply, SaysMade, BrokeOff, Answering, AnswersAs, AnswersOne, AnswersWhole, AnswersWholeAs, AnswersRequest, RefusesAs, FaultedAs, AnswersFault, OneMore, IsRefusal, StarvedAt, TurnAs, SessionTurn, turn_behind, turn_refused, refusal_bytes, LeavesNothing}
+use Rattle.mt_front.proofs.CameLaws.{same_self, told_self, bad_item, came_bad, caused_bad, left_nothing, IsUndone, tried_off, added_self}
 
 -- ---- bytes sent one after the other
 
@@ -59,12 +56,8 @@ cut_after o y x a b le p q =
 
 -- ---- an answer whose reply was tried
 
--- the bytes are the reply to an operation that came to this
-abbrev pub RepliesWrite : Op → Echo → Outcome → Bool → List ℕ → Type 0
-RepliesWrite op echo (outcome.Done tag) close bytes = IsDoneReply echo op tag close bytes
-RepliesWrite op echo (outcome.Refused refusal) close bytes = bytes ≡ bytes_of (cause_reply refusal.cause close)
-RepliesWrite op echo outcome.Fault close bytes = bytes ≡ bytes_of (fault_reply close)
-RepliesWrite op echo outcome.Full close bytes = bytes ≡ bytes_of (full_reply close)
+pub leaves_nothing : (w : WorldState) → LeavesNothing w w
+leaves_nothing w = record { same = same_self w; retired = refl; told = told_self w; entries = refl; still = refl }
 
 -- a reply that was made, or was not
 pub says_made : (o x : Output) (want : Reply) (made : Result Reply NoRoom) (r : Result (Unit {0}) ConnFault) → Makes want made → SaysMade o made r x → SaysReply o (bytes_of want) r x
@@ -86,22 +79,32 @@ module _ (c : ℕ) (w w' : WorldState) (o x : Output) where
   answered_or asks keep item (Err WriteFault) broken is kept came cause added rendered off reply = answered asks keep item (Err WriteFault) is kept came cause added rendered (record { faults = reply.faults; replied = reply.said })
   answered_or asks keep item (Err NoMemory) broken is kept came cause added rendered off reply = record { faults_out = reply.faults; answers = (broken, off, reply.said) }
 
-  -- an operation that was tried, whose bytes are the reply to what it came to
-  rendered_by : (op : Op) (echo : Echo) (out : Outcome) (marks : List Mark) (close : Bool) (bytes : List ℕ) → entries_of marks ≡ left_by op out → RepliesWrite op echo out close bytes → Renders (asked.Write op echo) (outcome_of out) marks close bytes
-  rendered_by op echo (outcome.Done tag) marks close bytes left is = (left, is)
-  rendered_by op echo (outcome.Refused refusal) marks close bytes left is = (left, is)
-  rendered_by op echo outcome.Fault marks close bytes left is = (left, is)
-  rendered_by op echo outcome.Full marks close bytes left is = (left, is)
+  -- a request that was tried, whose bytes are the reply to what it came to
+  pub tried_said : (asks : Asked) (q : Request) (keep : Bool) (out : Outcome) (bytes : List ℕ) (r : Result (Unit {0}) ConnFault) → need_of asks ≡ Some (room_for q) → IsUndone out → Tries c w q (Ok out) w'
+      → ((marks : List Mark) → entries_of marks ≡ left_by q out → Renders asks (outcome_of out) marks (not keep) bytes) → SaysReply o bytes r x → AnswersOne c w o asks keep r w' x
+  tried_said asks q keep out bytes r need undone tries shows reply =
+      answered_or asks keep (tried_item asks out keep tries.0 bytes) r tries.0 refl refl (tries.1.came asks keep bytes need) (tries.1.caused asks keep bytes) tries.1.added
+      (shows tries.0 tries.1.left) (tried_off c w w' q out tries.0 asks need undone tries.1) reply
 
-  pub tried_said : (op : Op) (echo : Echo) (keep : Bool) (out : Outcome) (bytes : List ℕ) (r : Result (Unit {0}) ConnFault) → IsUndone out → Tries c w op (Ok out) w' → RepliesWrite op echo out (not keep) bytes → SaysReply o bytes r x → AnswersOne c w o (asked.Write op echo) keep r w' x
-  tried_said op echo keep out bytes r undone tries is reply =
-      answered_or (asked.Write op echo) keep (tried_item op out echo keep tries.0 bytes) r tries.0 refl refl (tries.1.came echo keep bytes) (tries.1.caused echo keep bytes) tries.1.added
-      (rendered_by op echo out tries.0 (not keep) bytes tries.1.left is) (tried_off c w w' op out tries.0 echo undone tries.1) reply
+  -- so for a reply that may have been made
+  pub tried_made : (asks : Asked) (q : Request) (keep : Bool) (out : Outcome) (made : Result Reply NoRoom) (r : Result (Unit {0}) ConnFault) → need_of asks ≡ Some (room_for q) → IsUndone out → Tries c w q (Ok out) w'
+      → IfOk made (λ reply. (marks : List Mark) → entries_of marks ≡ left_by q out → Renders asks (outcome_of out) marks (not keep) (bytes_of reply)) → SaysMade o made r x → AnswersOne c w o asks keep r w' x
+  tried_made asks q keep out (Ok reply) r need undone tries shows said = tried_said asks q keep out (bytes_of reply) r need undone tries shows said
+  tried_made asks q keep out (Err none) r need undone tries shows said =
+      subst (λ v. AnswersOne c w o asks keep v w' x) (sym said.0) (record { faults_out = subst (λ (z : Output). o.faults ≤ z.faults) (sym said.1) (let le : o.faults ≤ o.faults = omega arith in le); answers = (tries.0, tried_off c w w' q out tries.0 asks need undone tries.1, said.1) })
 
-  pub tried_answered : (op : Op) (echo : Echo) (keep : Bool) (out : Outcome) (bytes : List ℕ) (r : Result (Unit {0}) ConnFault) → Tries c w op (Ok out) w' → RepliesWrite op echo out (not keep) bytes → WritesReply o bytes r x → AnswersOne c w o (asked.Write op echo) keep r w' x
-  tried_answered op echo keep out bytes r tries is reply =
-      answered (asked.Write op echo) keep (tried_item op out echo keep tries.0 bytes) r refl refl (tries.1.came echo keep bytes) (tries.1.caused echo keep bytes) tries.1.added
-      (rendered_by op echo out tries.0 (not keep) bytes tries.1.left is) reply
+  pub tried_answered : (asks : Asked) (q : Request) (keep : Bool) (out : Outcome) (bytes : List ℕ) (r : Result (Unit {0}) ConnFault) → need_of asks ≡ Some (room_for q) → Tries c w q (Ok out) w'
+      → ((marks : List Mark) → entries_of marks ≡ left_by q out → Renders asks (outcome_of out) marks (not keep) bytes) → WritesReply o bytes r x → AnswersOne c w o asks keep r w' x
+  tried_answered asks q keep out bytes r need tries shows reply =
+      answered asks keep (tried_item asks out keep tries.0 bytes) r refl refl (tries.1.came asks keep bytes need) (tries.1.caused asks keep bytes) tries.1.added (shows tries.0 tries.1.left) reply
+
+  -- what is refused before anything is tried was answered by this reply
+  pub bad_said : (asks : Asked) (keep : Bool) (want : Reply) (r : Result (Unit {0}) ConnFault) → w' ≡ w → need_of asks ≡ None → Renders asks Bad [] (not keep) (bytes_of want) → SaysReply o (bytes_of want) r x → AnswersOne c w o asks keep r w' x
+  bad_said asks keep want r same none shows reply =
+      answered_or asks keep (bad_item asks keep (bytes_of want)) r [] refl refl
+      (subst (λ v. CameOut c w (bad_item asks keep (bytes_of want)) v) (sym same) (came_bad c w asks keep (bytes_of want) none))
+      (subst (λ v. IsCaused (counts_of w) (bad_item asks keep (bytes_of want)) (counts_of v)) (sym same) (caused_bad (counts_of w) asks keep (bytes_of want)))
+      (subst (Added c w) (sym same) (added_self c w)) shows (left_nothing c w w' (subst (LeavesNothing w) (sym same) (leaves_nothing w))) reply
 
   -- the answer to a request that asks for this
   pub whole_answered : (table : List ℕ) (v : Incoming) (asks : Asked) (turn : Turn) → RequestAsks table (request_of v) asks → turn ≡ turn_behind v.keep → AnswersOne c w o asks v.keep (Ok tt) w' x → AnswersRequest c table w o v (Ok turn) w' x
@@ -182,9 +185,6 @@ not_not : (b : Bool) → not (not b) ≡ b
 not_not true = refl
 not_not false = refl
 
-pub leaves_nothing : (w : WorldState) → LeavesNothing w w
-leaves_nothing w = record { same = same_self w; retired = refl; told = told_self w; entries = refl; still = refl }
-
 module _ (c : ℕ) (table kept : List ℕ) (s : Input) (o : Output) (w : WorldState) (kept' : List ℕ) (t : Input) (y x : Output) (later : o.faults ≤ y.faults) where
   starved_at : Starved kept s o y → StarvedAt (ahead kept s) o y
   starved_at n = record {
@@ -223,7 +223,7 @@ module _ (c : ℕ) (table kept : List ℕ) (s : Input) (o : Output) (w : WorldSt
   closed_turn code close (Err NoMemory) closes is b a = ([], left_nothing c w w (leaves_nothing w), record { said = b.bytes; spoken = inr (inr (code, closes, b.refuses)); sent = subst (λ z. Sent o b.bytes z) (sym a) b.said })
 
   abbrev pub packed_item : Bool → Item
-  packed_item close = record { asks = asked.Refused bad.CompressedBody; keep = not close; outcome = Bad bad.CompressedBody; reply = bytes_of (bad_reply bad.CompressedBody (not (not close))); marks = [] }
+  packed_item close = bad_item (asked.Refused bad.CompressedBody) (not close) (bytes_of (bad_reply bad.CompressedBody (not (not close))))
 
   packed_more : (close : Bool) (r : Result (Unit {0}) ConnFault) (p : Packed kept s o close kept' t y) → Answering c w y (asked.Refused bad.CompressedBody) (not close) r w x → OneMore c table kept s o w (not close) r kept' t x w
   packed_more close r p a = record {
@@ -243,10 +243,10 @@ module _ (c : ℕ) (table kept : List ℕ) (s : Input) (o : Output) (w : WorldSt
     item = packed_item close;
     is_asked = refl;
     keep_is = refl;
-    came = came_bad c w bad.CompressedBody (not close) (bytes_of (bad_reply bad.CompressedBody (not (not close))));
-    caused = caused_bad (counts_of w) bad.CompressedBody (not close) (bytes_of (bad_reply bad.CompressedBody (not (not close))));
+    came = came_bad c w (asked.Refused bad.CompressedBody) (not close) (bytes_of (bad_reply bad.CompressedBody (not (not close)))) refl;
+    caused = caused_bad (counts_of w) (asked.Refused bad.CompressedBody) (not close) (bytes_of (bad_reply bad.CompressedBody (not (not close))));
     added = added_self c w;
-    rendered = (refl, refl, refl);
+    rendered = (refl, refl);
     replied = subst (λ b. RepliedAs y (bytes_of (bad_reply bad.CompressedBody b)) r x) (sym (not_not close)) reply;
   }
 

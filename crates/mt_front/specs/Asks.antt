@@ -1,136 +1,52 @@
--- What a request asks for: an operation on one row, or a refusal.
-use Rattle.std.specs.Prelude.{◌≡◌, ℕ, ◌≤◌, ◌⊎◌, Bool, true, false, List, Option, Some, None, Result, Ok, Err}
-use Rattle.mt_model.specs.declared.key.Key.{Key}
-use Rattle.mt_model.specs.declared.key.KeyFault.{KeyFault}
-use Rattle.mt_model.specs.declared.value.Prop.{Prop}
-use Rattle.mt_model.specs.Key.{key_fault}
-use Rattle.mt_model.specs.Props.{visible_size}
-use Rattle.mt_json.specs.declared.read.Body.{Body}
-use Rattle.mt_json.specs.declared.read.JsonFault.{JsonFault}
-use Rattle.mt_json.specs.declared.read.KeyUse.TheVariants.{InBody, InTarget}
-use Rattle.mt_json.specs.Body.{ReadsAs}
-use Rattle.mt_chain.specs.declared.op.Cond.{Cond}
-use Rattle.mt_chain.specs.declared.op.Cond.TheVariants as cond
-use Rattle.mt_chain.specs.declared.op.Op.{Op}
-use Rattle.mt_chain.specs.declared.op.Op.TheVariants as op
-use Rattle.mt_chain.specs.Effect.{op_props}
-use Rattle.mt_chain.specs.Rows.{key_at}
-use Rattle.mt_rules.specs.Batches.{MayAsk}
+-- What a request asks for: operations, rows, or a refusal.
+use Rattle.std.specs.Prelude.{◌≡◌, ◌⊎◌, ℕ, Bool, true, false, List, Option, Some, None}
 use Rattle.httparse.specs.Grammar.{RequestHead}
 use Rattle.mt_http_in.specs.declared.fields.Field.{Field}
 use Rattle.mt_http_in.specs.declared.requests.Incoming.{Incoming}
 use Rattle.mt_http_in.specs.Fields.{is_packed}
 use Rattle.mt_http_in.specs.Heads.{fields_of}
+use Rattle.mt_target.specs.declared.target.QueryOption.{QueryOption}
 use Rattle.mt_target.specs.declared.target.Spelled.{Spelled}
 use Rattle.mt_target.specs.Targets.{SpellsIt}
 use Rattle.mt_front.specs.declared.methods.Method.{Method}
-use Rattle.mt_front.specs.declared.methods.Action.{Action}
-use Rattle.mt_front.specs.declared.methods.Action.TheVariants.{Put, Merge, Delete}
 use Rattle.mt_front.specs.Methods.{IsMethod}
+use Rattle.mt_front.specs.Fields.{is_atomic}
 use Rattle.mt_front.specs.declared.routes.Route.{Route}
 use Rattle.mt_front.specs.declared.routes.Route.TheVariants as route
-use Rattle.mt_front.specs.Routes.{route_refusal, route_by}
-use Rattle.mt_front.specs.declared.fields.IfMatch.{IfMatch}
-use Rattle.mt_front.specs.declared.fields.IfMatch.TheVariants as match
-use Rattle.mt_front.specs.Fields.{IsMatch, insert_echo}
+use Rattle.mt_front.specs.Routes.{route_refusal, route_by, SpellsNothing}
 use Rattle.mt_front.specs.declared.refusals.BadRequest.{BadRequest}
-use Rattle.mt_front.specs.declared.refusals.BadRequest.TheVariants.{InvalidUri, CompressedBody, MissingIfMatch, BadETag}
+use Rattle.mt_front.specs.declared.refusals.BadRequest.TheVariants.{InvalidUri, CompressedBody}
+use Rattle.mt_front.specs.declared.changes.Change.{Change}
+use Rattle.mt_front.specs.declared.changes.Change.TheVariants as change
 use Rattle.mt_front.specs.declared.asks.Asked.{Asked}
-use Rattle.mt_front.specs.declared.asks.Asked.TheVariants.{Write, Refused}
-use Rattle.mt_front.specs.declared.asks.Echo.{Echo}
-use Rattle.mt_front.specs.declared.asks.Echo.TheVariants as echo
-use Rattle.mt_front.specs.Refusals.{key_refusal, body_refusal}
-use Rattle.mt_front.specs.Replies.{HasEcho}
-
--- this refusal and nothing else; where there is none to tell, it cannot be
-abbrev pub IsRefused : Option BadRequest → Asked → Type 0
-IsRefused None asked = ⊥
-IsRefused (Some r) asked = asked ≡ Refused r
-
--- the key meets the rules and then this is asked for, or its first fault refuses
-abbrev pub KeyedBy : Option KeyFault → Type 0 → Asked → Type 0
-KeyedBy None then asked = then
-KeyedBy (Some fault) then asked = IsRefused (key_refusal fault) asked
-
--- ---- inserts: the body, and then the keys in it
-
--- the two texts of a body's key
-pub record BodyHasKeys (body : Body) (pk rk : List ℕ) : Type 0 where
-  pub pk_is : body.pk ≡ Some pk
-  pub rk_is : body.rk ≡ Some rk
-
-abbrev pub InsertBy : Echo → Result Body JsonFault → Asked → Type 0
-InsertBy shown (Ok body) asked = (pk : List ℕ) × (rk : List ℕ) × BodyHasKeys body pk rk
-    × KeyedBy (key_fault pk rk) (asked ≡ Write (op.Insert (key_at pk rk) body.props) shown) asked
-InsertBy shown (Err fault) asked = IsRefused (body_refusal fault) asked
-
-abbrev pub AsksInsert : Echo → List ℕ → Asked → Type 0
-AsksInsert shown bytes asked = (read : Result Body JsonFault) × ReadsAs InBody bytes read × InsertBy shown read asked
-
--- ---- an entity's methods: If-Match, then the key in the target, then the body
-
--- a delete must have If-Match, and it must be readable
-abbrev pub match_refusal : Action → IfMatch → Option BadRequest
-match_refusal Delete match.Absent = Some MissingIfMatch
-match_refusal Put match.Absent = None
-match_refusal Merge match.Absent = None
-match_refusal action match.Any = None
-match_refusal action (match.Is tag) = None
-match_refusal action match.Unreadable = Some BadETag
-
--- the condition of an operation, where If-Match gives one
-abbrev pub condition_of : IfMatch → Option Cond
-condition_of match.Absent = None
-condition_of match.Any = Some cond.Any
-condition_of (match.Is tag) = Some (cond.Is tag)
-condition_of match.Unreadable = None
-
--- without a condition the row is written whether it is there or not
-abbrev pub put_op : Option Cond → Key → List Prop → Op
-put_op None key props = op.InsertOrReplace key props
-put_op (Some c) key props = op.Replace key props c
-
-abbrev pub merge_op : Option Cond → Key → List Prop → Op
-merge_op None key props = op.InsertOrMerge key props
-merge_op (Some c) key props = op.Merge key props c
-
--- a body without keys in it
-abbrev pub BodyBy : (List Prop → Op) → Result Body JsonFault → Asked → Type 0
-BodyBy make (Ok body) asked = asked ≡ Write (make body.props) echo.Plain
-BodyBy make (Err fault) asked = IsRefused (body_refusal fault) asked
-
-abbrev pub AsksWith : (List Prop → Op) → List ℕ → Asked → Type 0
-AsksWith make bytes asked = (read : Result Body JsonFault) × ReadsAs InTarget bytes read × BodyBy make read asked
-
-abbrev pub AsksDelete : Option Cond → Key → Asked → Type 0
-AsksDelete None key asked = ⊥
-AsksDelete (Some c) key asked = asked ≡ Write (op.Delete key c) echo.Plain
-
-abbrev pub AsksAction : Action → Option Cond → Key → List ℕ → Asked → Type 0
-AsksAction Put c key bytes asked = AsksWith (put_op c key) bytes asked
-AsksAction Merge c key bytes asked = AsksWith (merge_op c key) bytes asked
-AsksAction Delete c key bytes asked = AsksDelete c key asked
-
-abbrev pub MatchedBy : Option BadRequest → Type 0 → Asked → Type 0
-MatchedBy None then asked = then
-MatchedBy (Some r) then asked = asked ≡ Refused r
-
-abbrev pub AsksEntity : Action → List ℕ → List ℕ → IfMatch → List ℕ → Asked → Type 0
-AsksEntity action pk rk m bytes asked =
-    MatchedBy (match_refusal action m) (KeyedBy (key_fault pk rk) (AsksAction action (condition_of m) (key_at pk rk) bytes asked) asked) asked
+use Rattle.mt_front.specs.declared.asks.Asked.TheVariants.{Refused}
+use Rattle.mt_front.specs.Changes.{AsksChange}
+use Rattle.mt_front.specs.ChangeSets.{alone, AsksChanges}
+use Rattle.mt_front.specs.Reads.{AsksRow, AsksRows}
 
 -- ---- routes
 
+-- what a change asks for that stands alone
+abbrev pub asked_alone : Change → Asked
+asked_alone (change.Write op echo) = alone op echo
+asked_alone (change.Refused r) = Refused r
+
+-- what a request asks for that stands alone and writes so
+abbrev pub AsksAlone : (Change → Type 0) → Asked → Type 0
+AsksAlone asks asked = (c : Change) × asks c × (asked ≡ asked_alone c)
+
 -- what a request of that route asks for
-abbrev pub AsksOn : Route → List Field → List ℕ → Asked → Type 0
-AsksOn route.Insert fields bytes asked = AsksInsert (insert_echo fields) bytes asked
-AsksOn (route.Entity action pk rk) fields bytes asked = (m : IfMatch) × IsMatch fields m × AsksEntity action pk rk m bytes asked
+abbrev pub AsksOn : List ℕ → Route → List QueryOption → List Field → List ℕ → Asked → Type 0
+AsksOn table (route.Write write) options fields bytes asked = AsksAlone (AsksChange write fields bytes) asked
+AsksOn table (route.Row pk rk) options fields bytes asked = AsksRow pk rk options fields asked
+AsksOn table route.Rows options fields bytes asked = AsksRows options fields asked
+AsksOn table route.Changes options fields bytes asked = AsksChanges table fields bytes asked
 
 -- the route's refusal refuses, or what the route asks for is asked; what is not refused has a route
-abbrev pub AsksBy : Option BadRequest → Option Route → List Field → List ℕ → Asked → Type 0
-AsksBy (Some r) at fields bytes asked = asked ≡ Refused r
-AsksBy None (Some at) fields bytes asked = AsksOn at fields bytes asked
-AsksBy None None fields bytes asked = ⊥
+abbrev pub AsksBy : List ℕ → Option BadRequest → Option Route → List QueryOption → List Field → List ℕ → Asked → Type 0
+AsksBy table (Some r) at options fields bytes asked = asked ≡ Refused r
+AsksBy table None (Some at) options fields bytes asked = AsksOn table at options fields bytes asked
+AsksBy table None None options fields bytes asked = ⊥
 
 -- ---- whole requests
 
@@ -155,11 +71,7 @@ pub record AsksSpelled (table : List ℕ) (q : Request) (asked : Asked) : Type 0
   pub spelled : Spelled
   pub is_method : IsMethod q.method method
   pub is_spelled : SpellsIt q.target spelled
-  pub asks : AsksBy (route_refusal table spelled method) (route_by spelled.target method) q.fields q.body asked
-
--- the target spells nothing
-abbrev pub SpellsNothing : List ℕ → Type 0
-SpellsNothing target = (spelled : Spelled) → SpellsIt target spelled → ⊥
+  pub asks : AsksBy table (route_refusal (is_atomic q.fields) table spelled method) (route_by (is_atomic q.fields) spelled.target method) spelled.options q.fields q.body asked
 
 -- what a request on the table of that name asks for
 abbrev pub RequestAsks : List ℕ → Request → Asked → Type 0
@@ -173,8 +85,3 @@ AsksUnpacked false table q asked = RequestAsks table q asked
 -- what a whole request asks for
 abbrev pub WholeAsks : List ℕ → Request → Asked → Type 0
 WholeAsks table q asked = AsksUnpacked (is_packed q.fields) table q asked
-
--- the operation keeps the rules of a batch, the reply can show of it what is asked, and its properties have at most 1 MiB
-abbrev pub CanTry : Asked → Type 0
-CanTry (Write op echo) = MayAsk op × HasEcho echo op × (visible_size (op_props op) ≤ 1048576)
-CanTry (Refused r) = Unit {0}

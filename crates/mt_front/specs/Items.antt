@@ -3,25 +3,32 @@ use Rattle.std.specs.Prelude.{◌≡◌, ℕ, Bool, true, false, not, All, List,
 use Rattle.std.specs.List.{flat_map}
 use Rattle.std.specs.Option.{option_to_list}
 use Rattle.mt_model.specs.declared.tag.Tag.{Tag}
+use Rattle.mt_model.specs.declared.entity.Entity.{Entity}
 use Rattle.mt_chain.specs.declared.op.Op.{Op}
 use Rattle.mt_chain.specs.declared.op.Refusal.{Refusal}
 use Rattle.mt_chain.specs.Batch.{batch_weight}
+use Rattle.mt_filter.specs.declared.filter.Filter.{Filter}
+use Rattle.mt_history.specs.Weight.{need_of_query}
 use Rattle.mt_history.specs.declared.entry.What.TheVariants as what
 use Rattle.mt_history.specs.declared.model.Reply.TheVariants as reply
-use Rattle.mt_front.specs.declared.refusals.BadRequest.{BadRequest}
+use Rattle.mt_http_out.specs.declared.reply.Reply.{Reply}
+use Rattle.mt_http_out.specs.Rendering.{bytes_of}
+use Rattle.mt_mime.specs.Replies.{Answers}
 use Rattle.mt_front.specs.declared.asks.Asked.{Asked}
 use Rattle.mt_front.specs.declared.asks.Asked.TheVariants as asked
-use Rattle.mt_http_out.specs.Rendering.{bytes_of}
-use Rattle.mt_front.specs.Refusals.{bad_reply, cause_reply, fault_reply, full_reply}
-use Rattle.mt_front.specs.Replies.{IsDoneReply}
+use Rattle.mt_front.specs.Writes.{Writing}
+use Rattle.mt_front.specs.declared.reads.Read.{Read}
+use Rattle.mt_front.specs.Reads.{ShowsRows}
+use Rattle.mt_front.specs.Refusals.{bad_reply, part_reply, refusal_reply, fault_reply, full_reply}
 use Rattle.mt_world.specs.Moves.{NewEntry, fault_entry}
 use Rattle.mt_world.specs.WholeCalls.{Mark}
 
--- how an item came out: refused before anything was tried; done, with the tag of its row; refused by the table; a store failed; the history is full
+-- how an item came out: refused before anything was tried; done, with the tags of its rows; refused by the table; with the rows that were found; a store failed; the history is full
 pub data ItemOutcome : Type 0 where
-  Bad : BadRequest → ItemOutcome
-  Done : Tag → ItemOutcome
+  Bad : ItemOutcome
+  Done : List Tag → ItemOutcome
   Refused : Refusal → ItemOutcome
+  Found : List Entity → ItemOutcome
   Fault : ItemOutcome
   Full : ItemOutcome
 
@@ -35,17 +42,19 @@ pub record Item : Type 0 where
 
 -- it was answered that the history is full
 abbrev pub is_full : ItemOutcome → Bool
-is_full (Bad r) = false
-is_full (Done tag) = false
+is_full Bad = false
+is_full (Done tags) = false
 is_full (Refused refusal) = false
+is_full (Found rows) = false
 is_full Fault = false
 is_full Full = true
 
 -- it was answered that a store failed
 abbrev pub is_fault : ItemOutcome → Bool
-is_fault (Bad r) = false
-is_fault (Done tag) = false
+is_fault Bad = false
+is_fault (Done tags) = false
 is_fault (Refused refusal) = false
+is_fault (Found rows) = false
 is_fault Fault = true
 is_fault Full = false
 
@@ -55,8 +64,10 @@ faults_of items = length (filter (λ i. is_fault i.outcome) items)
 
 -- the room in the history that each turn of what is asked needs; what is refused takes no turn
 abbrev pub need_of : Asked → Option ℕ
-need_of (asked.Write op echo) = Some (batch_weight (op ∷ []))
+need_of (asked.Write w) = Some (batch_weight w.ops)
+need_of (asked.Read q) = Some (need_of_query q.pk q.filter)
 need_of (asked.Refused r) = None
+need_of (asked.RefusedPart r) = None
 
 -- ---- replies
 
@@ -68,22 +79,55 @@ applied_entry batch tags = record { what = what.Batch batch tags; reply = reply.
 abbrev pub refused_entry : List Op → Refusal → NewEntry
 refused_entry batch refusal = record { what = what.Refused batch; reply = reply.Refused refusal }
 
+-- the entry that a query leaves which found these rows
+abbrev pub found_entry : List ℕ → Option Filter → List Entity → NewEntry
+found_entry pk filter rows = record { what = what.Query pk filter; reply = reply.Rows rows }
+
 -- the entries that turns left
 abbrev pub entries_of : List Mark → List NewEntry
 entries_of marks = flat_map (λ m. option_to_list m.entry) marks
 
--- what is asked came out so, with these marks; and the bytes are the reply, which shows what their entries reply, and ends the connection or not
+-- the bytes are the reply to operations that were done, whose rows have these tags
+abbrev pub IsDoneReply : Writing → List Tag → Bool → List ℕ → Type 0
+IsDoneReply w tags close bytes = (r : Reply) × Answers w.change_set close w.ops w.echoes tags r × (bytes ≡ bytes_of r)
+
+-- operations came out so, with these marks; and the bytes are the reply, which shows what their entries reply
+abbrev pub RendersWrite : Writing → ItemOutcome → List Mark → Bool → List ℕ → Type 0
+RendersWrite w Bad marks close bytes = ⊥
+RendersWrite w (Done tags) marks close bytes = (entries_of marks ≡ applied_entry w.ops tags ∷ []) × IsDoneReply w tags close bytes
+RendersWrite w (Refused refusal) marks close bytes = (entries_of marks ≡ refused_entry w.ops refusal ∷ []) × (bytes ≡ bytes_of (refusal_reply w.change_set refusal close))
+RendersWrite w (Found rows) marks close bytes = ⊥
+RendersWrite w Fault marks close bytes = (entries_of marks ≡ fault_entry ∷ []) × (bytes ≡ bytes_of (fault_reply close))
+RendersWrite w Full marks close bytes = (entries_of marks ≡ []) × (bytes ≡ bytes_of (full_reply close))
+
+-- the bytes are the reply that shows the rows which a read found
+abbrev pub IsFoundReply : Read → List Entity → Bool → List ℕ → Type 0
+IsFoundReply q rows close bytes = (r : Reply) × ShowsRows q.shape q.show rows close r × (bytes ≡ bytes_of r)
+
+-- a read came out so, with these marks; and the bytes are the reply, which shows what their entry replies
+abbrev pub RendersRead : Read → ItemOutcome → List Mark → Bool → List ℕ → Type 0
+RendersRead q Bad marks close bytes = ⊥
+RendersRead q (Done tags) marks close bytes = ⊥
+RendersRead q (Refused refusal) marks close bytes = ⊥
+RendersRead q (Found rows) marks close bytes = (entries_of marks ≡ found_entry q.pk q.filter rows ∷ []) × IsFoundReply q rows close bytes
+RendersRead q Fault marks close bytes = (entries_of marks ≡ fault_entry ∷ []) × (bytes ≡ bytes_of (fault_reply close))
+RendersRead q Full marks close bytes = (entries_of marks ≡ []) × (bytes ≡ bytes_of (full_reply close))
+
+-- what is refused took no turn, and the bytes are this reply
+abbrev pub RendersBad : Reply → ItemOutcome → List Mark → List ℕ → Type 0
+RendersBad r Bad marks bytes = (marks ≡ []) × (bytes ≡ bytes_of r)
+RendersBad r (Done tags) marks bytes = ⊥
+RendersBad r (Refused refusal) marks bytes = ⊥
+RendersBad r (Found rows) marks bytes = ⊥
+RendersBad r Fault marks bytes = ⊥
+RendersBad r Full marks bytes = ⊥
+
+-- what is asked came out so, with these marks; and the bytes are the reply, which ends the connection or not
 abbrev pub Renders : Asked → ItemOutcome → List Mark → Bool → List ℕ → Type 0
-Renders (asked.Write op echo) (Bad r) marks close bytes = ⊥
-Renders (asked.Write op echo) (Done tag) marks close bytes = (entries_of marks ≡ applied_entry (op ∷ []) (tag ∷ []) ∷ []) × IsDoneReply echo op tag close bytes
-Renders (asked.Write op echo) (Refused refusal) marks close bytes = (entries_of marks ≡ refused_entry (op ∷ []) refusal ∷ []) × (bytes ≡ bytes_of (cause_reply refusal.cause close))
-Renders (asked.Write op echo) Fault marks close bytes = (entries_of marks ≡ fault_entry ∷ []) × (bytes ≡ bytes_of (fault_reply close))
-Renders (asked.Write op echo) Full marks close bytes = (entries_of marks ≡ []) × (bytes ≡ bytes_of (full_reply close))
-Renders (asked.Refused r) (Bad q) marks close bytes = (q ≡ r) × (marks ≡ []) × (bytes ≡ bytes_of (bad_reply r close))
-Renders (asked.Refused r) (Done tag) marks close bytes = ⊥
-Renders (asked.Refused r) (Refused refusal) marks close bytes = ⊥
-Renders (asked.Refused r) Fault marks close bytes = ⊥
-Renders (asked.Refused r) Full marks close bytes = ⊥
+Renders (asked.Write w) outcome marks close bytes = RendersWrite w outcome marks close bytes
+Renders (asked.Read q) outcome marks close bytes = RendersRead q outcome marks close bytes
+Renders (asked.Refused r) outcome marks close bytes = RendersBad (bad_reply r close) outcome marks bytes
+Renders (asked.RefusedPart r) outcome marks close bytes = RendersBad (part_reply r close) outcome marks bytes
 
 -- the item's reply is that to what it asks, and ends the connection where it does not go on
 abbrev pub IsRendered : Item → Type 0

@@ -1,9 +1,13 @@
 pub mod Methods
 pub mod Fields
+pub mod Writes
 pub mod Routes
 pub mod Refusals
+pub mod Refused
+pub mod Changes
+pub mod ChangeSets
+pub mod Reads
 pub mod Asks
-pub mod Replies
 pub mod Items
 pub mod Answers
 pub mod Spells

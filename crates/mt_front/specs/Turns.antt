@@ -1,8 +1,16 @@
 -- One turn of a session: one request read, answered over the world, and its reply written.
-use Rattle.std.specs.Prelude.{◌≡◌, ◌⊎◌, ℕ, ◌+◌, ◌≤◌, Bool, true, false, not, List, [], ◌∷◌, ◌++◌, Option, Result, Ok, Err, IfSome}
+use Rattle.std.specs.Prelude.{◌≡◌, ◌⊎◌, ℕ, ◌+◌, ◌≤◌, Bool, true, false, not, List, [], ◌∷◌, ◌++◌, length, Option, Some, Result, Ok, Err, IfSome}
+use Rattle.std.specs.Option.{option_to_list}
 use Rattle.mt_io.specs.Ends.{Input, Output}
 use Rattle.mt_model.specs.declared.text.NoMemory.{NoMemory as NoRoom}
-use Rattle.mt_chain.specs.declared.op.Op.{Op}
+use Rattle.mt_chain.specs.Batch.{batch_weight}
+use Rattle.mt_history.specs.Weight.{need_of_query}
+use Rattle.mt_world.specs.declared.actor.Request.{Request}
+use Rattle.mt_world.specs.declared.actor.Request.TheVariants as request
+use Rattle.mt_world.specs.declared.actor.Answer.{Answer}
+use Rattle.mt_world.specs.declared.actor.Answer.TheVariants as answer
+use Rattle.mt_world.specs.declared.actor.TurnFault.{TurnFault}
+use Rattle.mt_world.specs.declared.actor.TurnFault.TheVariants as turn_fault
 use Rattle.mt_world.specs.Worlds.{WorldState, Tells}
 use Rattle.mt_world.specs.Turns.{IsSameWorld}
 use Rattle.httparse.specs.Grammar.{RequestHead}
@@ -16,8 +24,6 @@ use Rattle.mt_http_in.specs.Reading.{ahead, Later, Closes, Ended as EndsReads}
 use Rattle.mt_http_in.specs.Heads.{fields_of}
 use Rattle.mt_http_in.specs.Requests.{Refuses, Got, BrokeIn, BrokeOut}
 use Rattle.mt_front.specs.declared.asks.Asked.{Asked}
-use Rattle.mt_front.specs.declared.asks.Asked.TheVariants as asked
-use Rattle.mt_front.specs.declared.asks.Echo.{Echo}
 use Rattle.mt_front.specs.declared.connection.End.{End}
 use Rattle.mt_front.specs.declared.connection.Served.{Served}
 use Rattle.mt_front.specs.declared.connection.End.TheVariants.{Input as AtEnd, Closed, BadInput}
@@ -31,9 +37,9 @@ use Rattle.mt_http_out.specs.declared.reply.Reply.{Reply}
 use Rattle.mt_http_out.specs.Rendering.{bytes_of}
 use Rattle.mt_front.specs.Refusals.{head_refusal, bad_reply}
 use Rattle.mt_front.specs.Asks.{RequestAsks, WholeAsks, request_by, request_of}
-use Rattle.mt_world.specs.Moves.{NewEntry, fault_entry}
-use Rattle.mt_world.specs.WholeCalls.{Mark}
-use Rattle.mt_front.specs.Items.{ItemOutcome, Done, Refused, Fault, Full, Item, IsRendered, AllKeep, entries_of, applied_entry, refused_entry}
+use Rattle.mt_world.specs.Moves.{NewEntry}
+use Rattle.mt_world.specs.WholeCalls.{Mark, batch_entry, query_entry}
+use Rattle.mt_front.specs.Items.{ItemOutcome, Done, Refused, Found, Fault, Full, Item, IsRendered, AllKeep, entries_of, need_of}
 use Rattle.mt_front.specs.Answers.{FitsFrom, BreaksOff, IsCaused, AtMost, past_end}
 use Rattle.mt_front.specs.Session.{Sent, Cut, past_of, counts_of, ToldBefore, Added, IsSaid, Course, IsCourse, Talk, MayBreak, SessionAs}
 
@@ -62,35 +68,65 @@ pub record CameOut (c : ℕ) (w : WorldState) (i : Item) (w' : WorldState) : Typ
   pub told : ToldBefore w w'
   pub fits : FitsFrom c (Tells w') (past_of w') (past_end (past_of w)) (i ∷ []) []
 
--- how an item comes out whose operation came to this
+-- the room that each turn of a request needs
+abbrev pub room_for : Request → ℕ
+room_for (request.Batch ops) = batch_weight ops
+room_for (request.Query pk filter) = need_of_query pk filter
+
+-- the entry that a request leaves which was answered so, or broke off so
+abbrev pub entry_by : Request → Result Answer TurnFault → Option NewEntry
+entry_by (request.Batch ops) r = batch_entry ops r
+entry_by (request.Query pk filter) r = query_entry pk filter r
+
+-- the answer, or the fault, that came to this
+abbrev pub answer_of : Outcome → Result Answer TurnFault
+answer_of (outcome.Done tags) = Ok (answer.Written tags)
+answer_of (outcome.Refused refusal) = Ok (answer.Refused refusal)
+answer_of (outcome.Found rows) = Ok (answer.Rows rows)
+answer_of outcome.Fault = Err turn_fault.StoreFault
+answer_of outcome.Full = Err turn_fault.HistoryFull
+
+-- how an item comes out whose request came to this
 abbrev pub outcome_of : Outcome → ItemOutcome
-outcome_of (outcome.Done tag) = Done tag
+outcome_of (outcome.Done tags) = Done tags
 outcome_of (outcome.Refused refusal) = Refused refusal
+outcome_of (outcome.Found rows) = Found rows
 outcome_of outcome.Fault = Fault
 outcome_of outcome.Full = Full
 
--- the entries that an operation leaves which came to this
-abbrev pub left_by : Op → Outcome → List NewEntry
-left_by op (outcome.Done tag) = applied_entry (op ∷ []) (tag ∷ []) ∷ []
-left_by op (outcome.Refused refusal) = refused_entry (op ∷ []) refusal ∷ []
-left_by op outcome.Fault = fault_entry ∷ []
-left_by op outcome.Full = []
+-- a request can come to this: operations that are done have a tag each, and a query finds rows
+abbrev pub IsOwn : Request → Outcome → Type 0
+IsOwn (request.Batch ops) (outcome.Done tags) = length tags ≡ length ops
+IsOwn (request.Batch ops) (outcome.Refused refusal) = Unit {0}
+IsOwn (request.Batch ops) (outcome.Found rows) = ⊥
+IsOwn (request.Batch ops) outcome.Fault = Unit {0}
+IsOwn (request.Batch ops) outcome.Full = Unit {0}
+IsOwn (request.Query pk filter) (outcome.Done tags) = ⊥
+IsOwn (request.Query pk filter) (outcome.Refused refusal) = ⊥
+IsOwn (request.Query pk filter) (outcome.Found rows) = Unit {0}
+IsOwn (request.Query pk filter) outcome.Fault = Unit {0}
+IsOwn (request.Query pk filter) outcome.Full = Unit {0}
 
--- the item of an operation that came to this
-abbrev pub tried_item : Op → Outcome → Echo → Bool → List Mark → List ℕ → Item
-tried_item op o echo keep marks reply = record { asks = asked.Write op echo; keep = keep; outcome = outcome_of o; reply = reply; marks = marks }
+-- the entries that a request leaves which came to this
+abbrev pub left_by : Request → Outcome → List NewEntry
+left_by q o = option_to_list (entry_by q (answer_of o))
 
--- an operation was tried with no other caller between, and these are the marks of its turns, whatever its reply shows
-pub record Tried (c : ℕ) (w : WorldState) (op : Op) (o : Outcome) (marks : List Mark) (w' : WorldState) : Type 0 where
-  pub left : entries_of marks ≡ left_by op o
-  pub came : (echo : Echo) (keep : Bool) (reply : List ℕ) → CameOut c w (tried_item op o echo keep marks reply) w'
-  pub caused : (echo : Echo) (keep : Bool) (reply : List ℕ) → IsCaused (counts_of w) (tried_item op o echo keep marks reply) (counts_of w')
+-- the item that asks for a request which came to this
+abbrev pub tried_item : Asked → Outcome → Bool → List Mark → List ℕ → Item
+tried_item asks o keep marks reply = record { asks = asks; keep = keep; outcome = outcome_of o; reply = reply; marks = marks }
+
+-- a request was tried with no other caller between, and these are the marks of its turns, whatever asks for it and its reply shows
+pub record Tried (c : ℕ) (w : WorldState) (q : Request) (o : Outcome) (marks : List Mark) (w' : WorldState) : Type 0 where
+  pub own : IsOwn q o
+  pub left : entries_of marks ≡ left_by q o
+  pub came : (asks : Asked) (keep : Bool) (reply : List ℕ) → need_of asks ≡ Some (room_for q) → CameOut c w (tried_item asks o keep marks reply) w'
+  pub caused : (asks : Asked) (keep : Bool) (reply : List ℕ) → IsCaused (counts_of w) (tried_item asks o keep marks reply) (counts_of w')
   pub added : Added c w w'
 
 -- for want of memory it has no entry
-abbrev pub Tries : ℕ → WorldState → Op → Result Outcome NoRoom → WorldState → Type 0
-Tries c w op (Ok o) w' = (marks : List Mark) × Tried c w op o marks w'
-Tries c w op (Err none) w' = LeavesNothing w w'
+abbrev pub Tries : ℕ → WorldState → Request → Result Outcome NoRoom → WorldState → Type 0
+Tries c w q (Ok o) w' = (marks : List Mark) × Tried c w q o marks w'
+Tries c w q (Err none) w' = LeavesNothing w w'
 
 -- ---- replies
 

@@ -1,239 +1,69 @@
 //! What a request asks for.
-ghost use Rattle.std.specs.Prelude.{◌≡◌, ℕ, false, List, Result, Ok, None, IfOk};
-ghost use Rattle.std.specs.List.{list_any};
-ghost use Rattle.mt_model.specs.Key.{key_fault};
-ghost use Rattle.mt_model.specs.Name.{is_hidden};
-ghost use Rattle.mt_chain.specs.Rows.{key_at};
-ghost use Rattle.mt_chain.specs.declared.op.Op.TheVariants as op;
-ghost use Rattle.mt_model.specs.declared.key.Key.{Key};
-ghost use Rattle.mt_model.specs.declared.value.Prop.{Prop};
-ghost use Rattle.mt_front.specs.declared.asks.Asked.TheVariants as asked;
+ghost use Rattle.std.specs.Prelude.{◌≡◌, IfOk};
+ghost use Rattle.mt_front.specs.Fields.{is_atomic};
 ghost use Rattle.mt_front.specs.Routes.{route_refusal, route_by};
-ghost use Rattle.mt_front.specs.Replies.{HasEcho};
-ghost use Rattle.mt_front.specs.Asks.{BodyHasKeys, IsRefused, KeyedBy, InsertBy, AsksInsert, AsksAction, AsksEntity, AsksWith, AsksOn, AsksBy, RequestAsks, request_of, CanTry, match_refusal, condition_of, put_op, merge_op};
+ghost use Rattle.mt_front.specs.Changes.{CanTry};
+ghost use Rattle.mt_front.specs.Asks.{asked_alone, AsksOn, AsksBy, RequestAsks, request_of};
 
-use crate::fields::{IfMatch, insert_echo, read_match};
-use crate::methods::{Action, Method, read_method};
-use crate::refusals::{BadRequest, body_refusal, key_refusal};
+use crate::change_sets::asked_of_changes;
+use crate::changes::{Change, change_by};
+use crate::fields::is_atomic;
+use crate::methods::{Method, read_method};
+use crate::reads::{Read, asked_of_row, asked_of_rows};
+use crate::refusals::{BadPart, BadRequest};
 use crate::routes::{Route, route_by, route_refusal};
-use mt_chain::{Cond, Op};
+use crate::writes::{Writes, write_alone};
 use mt_http_in::{Field, Incoming};
-use mt_json::{Body, KeyUse, Level, read_entity};
-use mt_model::{Key, NoMemory, Props, Text};
-use mt_target::{Spelled, read_target};
+use mt_model::{NoMemory, Text};
+use mt_target::{QueryOption, Spelled, read_target};
 use std::alloc::Global;
-
-/// What the reply to a written row shows of it.
-#[derive(Clone, Copy, Debug, PartialEq, Eq)]
-pub enum Echo {
-    /// The entity at that level: 201.
-    Entity(Level),
-
-    /// Its tag, and that no content was wanted: 204.
-    NoContent,
-
-    /// Its tag, or nothing where the row went: 204.
-    Plain,
-}
 
 /// What a request asks for.
 #[derive(Drop)]
 pub enum Asked {
-    /// An operation on one row.
-    Write { op: Op, echo: Echo },
+    /// Operations that are tried together.
+    Write(Writes),
+
+    /// Rows of one partition at one time.
+    Read(Read),
 
     /// Nothing that can be tried.
     Refused(BadRequest),
+
+    /// A change set of which one request cannot be tried.
+    RefusedPart(BadPart),
 }
 
-/// This refusal; where there is none to tell, there was no memory.
-fn refuse(refusal: Option<BadRequest>) -> Result<Asked, NoMemory>
-    ensures asks { IfOk result (IsRefused refusal) }
-    ensures may { IfOk result CanTry }
+/// What a request asks for that stands alone and writes so.
+fn asked_alone(alloc: Global, change: Change) -> Result<Asked, NoMemory>
+    requires { CanTry change }
+    ensures { IfOk result (λ a. a ≡ asked_alone change) }
 {
-    match refusal {
-        Some(refusal) => Ok(Asked::Refused(refusal)),
-        None => Err(NoMemory),
-    }
-}
-
-/// The insert of an entity of these keys and properties, or the refusal of the keys.
-fn insert_at(alloc: Global, echo: Echo, pk: &str, rk: &str, props: Props) -> Result<Asked, NoMemory>
-    requires visible { list_any (λ p. is_hidden p.name) props ≡ false }
-    requires shows { (key : Key) (props : List Prop) → HasEcho echo (op.Insert key props) }
-    ensures asks { IfOk result (λ a. KeyedBy (key_fault pk.now rk.now) (a ≡ asked.Write (op.Insert (key_at pk.now rk.now) props) echo) a) }
-    ensures may { IfOk result CanTry }
-{
-    match Key::read(alloc, pk, rk) {
-        Ok(key) => Ok(Asked::Write {
-            op: Op::Insert { key, props },
-            echo,
-        }),
-        Err(fault) => refuse(key_refusal(fault)),
-    }
-}
-
-/// What an insert asks for whose body was read with its keys in it.
-fn insert_of(alloc: Global, echo: Echo, body: Body) -> Result<Asked, NoMemory>
-    requires keys { (pk rk : List ℕ) × BodyHasKeys body pk rk }
-    requires visible { list_any (λ p. is_hidden p.name) body.props ≡ false }
-    requires shows { (key : Key) (props : List Prop) → HasEcho echo (op.Insert key props) }
-    ensures asks { IfOk result (InsertBy echo (Ok body)) }
-    ensures may { IfOk result CanTry }
-{
-    let Body { pk, rk, props } = body;
-    match (pk, rk) {
-        (Some(pk), Some(rk)) => insert_at(alloc, echo, pk.as_str(), rk.as_str(), props),
-        _ => unreachable!(),
-    }
-}
-
-/// What an insert with this body asks for, whose reply shows this.
-fn insert_by(alloc: Global, echo: Echo, bytes: &[u8]) -> Result<Asked, NoMemory>
-    requires { (key : Key) (props : List Prop) → HasEcho echo (op.Insert key props) }
-    ensures asks { IfOk result (AsksInsert echo bytes.now) }
-    ensures may { IfOk result CanTry }
-{
-    match read_entity(alloc, bytes, KeyUse::InBody) {
-        Ok(body) => insert_of(alloc, echo, body),
-        Err(fault) => refuse(body_refusal(&fault)),
-    }
-}
-
-/// The refusal of a delete without If-Match, and of an If-Match that is unreadable.
-fn match_refusal(action: Action, if_match: IfMatch) -> Option<BadRequest>
-    ensures { result ≡ match_refusal action if_match }
-{
-    match if_match {
-        IfMatch::Absent => match action {
-            Action::Delete => Some(BadRequest::MissingIfMatch),
-            Action::Put | Action::Merge => None,
-        },
-        IfMatch::Any | IfMatch::Is(_) => None,
-        IfMatch::Unreadable => Some(BadRequest::BadETag),
-    }
-}
-
-fn condition_of(if_match: IfMatch) -> Option<Cond>
-    ensures { result ≡ condition_of if_match }
-{
-    match if_match {
-        IfMatch::Absent | IfMatch::Unreadable => None,
-        IfMatch::Any => Some(Cond::Any),
-        IfMatch::Is(tag) => Some(Cond::Is(tag)),
-    }
-}
-
-/// Without a condition the properties stand in the row, whether it is there or not.
-fn put_op(cond: Option<Cond>, key: Key, props: Props) -> Op
-    ensures { result ≡ put_op cond key props }
-{
-    match cond {
-        None => Op::InsertOrReplace { key, props },
-        Some(cond) => Op::Replace { key, props, cond },
-    }
-}
-
-/// Without a condition the properties stand in the row, over those that it has.
-fn merge_op(cond: Option<Cond>, key: Key, props: Props) -> Op
-    ensures { result ≡ merge_op cond key props }
-{
-    match cond {
-        None => Op::InsertOrMerge { key, props },
-        Some(cond) => Op::Merge { key, props, cond },
-    }
-}
-
-/// What a put of this body to the row at a key asks for.
-fn put_by(alloc: Global, cond: Option<Cond>, key: Key, bytes: &[u8]) -> Result<Asked, NoMemory>
-    requires { key_fault key.pk key.rk ≡ None }
-    ensures asks { IfOk result (AsksWith (put_op cond key) bytes.now) }
-    ensures may { IfOk result CanTry }
-{
-    match read_entity(alloc, bytes, KeyUse::InTarget) {
-        Ok(body) => Ok(Asked::Write {
-            op: put_op(cond, key, body.props),
-            echo: Echo::Plain,
-        }),
-        Err(fault) => refuse(body_refusal(&fault)),
-    }
-}
-
-/// What a merge of this body into the row at a key asks for.
-fn merge_by(alloc: Global, cond: Option<Cond>, key: Key, bytes: &[u8]) -> Result<Asked, NoMemory>
-    requires { key_fault key.pk key.rk ≡ None }
-    ensures asks { IfOk result (AsksWith (merge_op cond key) bytes.now) }
-    ensures may { IfOk result CanTry }
-{
-    match read_entity(alloc, bytes, KeyUse::InTarget) {
-        Ok(body) => Ok(Asked::Write {
-            op: merge_op(cond, key, body.props),
-            echo: Echo::Plain,
-        }),
-        Err(fault) => refuse(body_refusal(&fault)),
-    }
-}
-
-/// What a method on the row at a key asks for, whose If-Match is not refused.
-fn action_by(
-    alloc: Global,
-    action: Action,
-    if_match: IfMatch,
-    key: Key,
-    bytes: &[u8],
-) -> Result<Asked, NoMemory>
-    requires key { key_fault key.pk key.rk ≡ None }
-    requires matched { match_refusal action if_match ≡ None }
-    ensures asks { IfOk result (AsksAction action (condition_of if_match) key bytes.now) }
-    ensures may { IfOk result CanTry }
-{
-    let cond = condition_of(if_match);
-    match action {
-        Action::Put => put_by(alloc, cond, key, bytes),
-        Action::Merge => merge_by(alloc, cond, key, bytes),
-        Action::Delete => match cond {
-            Some(cond) => Ok(Asked::Write {
-                op: Op::Delete { key, cond },
-                echo: Echo::Plain,
-            }),
-            None => unreachable!(),
-        },
-    }
-}
-
-/// What a method on the entity of these keys asks for: If-Match is looked at before the keys, and
-/// they before the body.
-fn entity_by(
-    alloc: Global,
-    action: Action,
-    if_match: IfMatch,
-    pk: &str,
-    rk: &str,
-    bytes: &[u8],
-) -> Result<Asked, NoMemory>
-    ensures asks { IfOk result (AsksEntity action pk.now rk.now if_match bytes.now) }
-    ensures may { IfOk result CanTry }
-{
-    if let Some(refusal) = match_refusal(action, if_match) {
-        return Ok(Asked::Refused(refusal));
-    }
-    match Key::read(alloc, pk, rk) {
-        Ok(key) => action_by(alloc, action, if_match, key, bytes),
-        Err(fault) => refuse(key_refusal(fault)),
+    match change {
+        Change::Write { op, echo } => write_alone(alloc, op, echo),
+        Change::Refused(refusal) => Ok(Asked::Refused(refusal)),
     }
 }
 
 /// What a request of that route asks for.
-fn asked_on(alloc: Global, at: Route, fields: &[Field], bytes: &[u8]) -> Result<Asked, NoMemory>
-    ensures asks { IfOk result (AsksOn at fields.now bytes.now) }
-    ensures may { IfOk result CanTry }
+fn asked_on(
+    alloc: Global,
+    table: &Text,
+    at: Route,
+    options: &[QueryOption],
+    fields: &[Field],
+    bytes: &[u8],
+) -> Result<Asked, NoMemory>
+    ensures { IfOk result (AsksOn table.now at options.now fields.now bytes.now) }
 {
     match at {
-        Route::Insert => insert_by(alloc, insert_echo(fields), bytes),
-        Route::Entity { action, pk, rk } => {
-            let if_match = read_match(fields);
-            entity_by(alloc, action, if_match, pk.as_str(), rk.as_str(), bytes)
+        Route::Write(write) => {
+            let change = change_by(alloc, write, fields, bytes)?;
+            asked_alone(alloc, change)
         }
+        Route::Row { pk, rk } => asked_of_row(alloc, pk.as_str(), rk.as_str(), options, fields),
+        Route::Rows => asked_of_rows(alloc, options, fields),
+        Route::Changes => asked_of_changes(alloc, table, fields, bytes),
     }
 }
 
@@ -246,32 +76,27 @@ fn asked_at(
     fields: &[Field],
     bytes: &[u8],
 ) -> Result<Asked, NoMemory>
-    ensures asks { IfOk result (AsksBy (route_refusal table.now spelled method) (route_by spelled.target method) fields.now bytes.now) }
-    ensures may { IfOk result CanTry }
+    ensures { IfOk result (AsksBy table.now (route_refusal (is_atomic fields.now) table.now spelled method) (route_by (is_atomic fields.now) spelled.target method) spelled.options fields.now bytes.now) }
 {
-    if let Some(refusal) = route_refusal(alloc, table, &spelled, method)? {
+    let atomic = is_atomic(fields);
+    if let Some(refusal) = route_refusal(alloc, atomic, table, &spelled, method)? {
         return Ok(Asked::Refused(refusal));
     }
-    match route_by(spelled.target, method) {
-        Some(at) => asked_on(alloc, at, fields, bytes),
+    let Spelled { target, options } = spelled;
+    match route_by(atomic, target, method) {
+        Some(at) => asked_on(alloc, table, at, options.as_slice(), fields, bytes),
         None => unreachable!(),
     }
 }
 
-/// What a request on the table asks for: an operation on one row, or the first refusal. First comes
-/// the target: one that spells nothing is refused, then what is not supported, another table's name, a
-/// method that the resource does not have, and an option's name that stands twice. An insert's keys
-/// stand in its body, which is looked at before them, and its If-Match is unread; at an entity's
-/// methods the order is If-Match, then the key in the target, then the body, whose keys are ignored,
-/// and Prefer and Accept are unread. Of a field the first counts. A body is a JSON object (RFC 8259) as
-/// `mt_json::read_entity` reads it, and nothing is read after a refusal.
-///
-/// Without If-Match a put or a merge takes the row whether it is there or not; with it the row has
-/// to be there and to meet it. The operation's key keeps the rules of keys, it has no hidden property,
-/// and its properties have at most 1,048,576 bytes. The one error is want of memory.
+/// What a request on the table asks for: operations, rows, or the first refusal. First comes the
+/// target: one that spells nothing is refused, then what is not supported, another table's name, a
+/// method that the resource does not have, and an option's name that stands twice. Then come the
+/// refusals of what the route asks for: of one operation as `change_by` has them, of a change set as
+/// `asked_of_changes`, of a read as `asked_of_row` and `asked_of_rows`. The one error is want of
+/// memory.
 pub fn asked_by(alloc: Global, table: &Text, request: Incoming) -> Result<Asked, NoMemory>
-    ensures asks { IfOk result (RequestAsks table.now (request_of request)) }
-    ensures may { IfOk result CanTry }
+    ensures { IfOk result (RequestAsks table.now (request_of request)) }
 {
     let method = read_method(request.method.as_str());
     match read_target(alloc, request.target.as_str())? {

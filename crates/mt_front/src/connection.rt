@@ -1,26 +1,23 @@
 //! One connection.
-ghost use Rattle.std.specs.Prelude.{◌≡◌, ◌≤◌, ◌<◌, ◌+◌, ◌^◌, ◌∷◌, [], length, IfOk};
-ghost use Rattle.mt_model.specs.Props.{visible_size};
-ghost use Rattle.mt_chain.specs.Effect.{op_props};
-ghost use Rattle.mt_rules.specs.Batches.{MayAsk};
+ghost use Rattle.std.specs.Prelude.{◌≡◌, ◌≤◌, ◌<◌, ◌+◌, ◌^◌, IfOk};
 ghost use Rattle.mt_front.specs.declared.asks.Asked.TheVariants as asked;
-ghost use Rattle.mt_front.specs.Asks.{CanTry};
 ghost use Rattle.mt_front.specs.Session.{Serves};
 ghost use Rattle.mt_http_out.specs.Rendering.{bytes_of, IsReply};
-ghost use Rattle.mt_front.specs.Refusals.{bad_reply};
+ghost use Rattle.mt_front.specs.Refusals.{bad_reply, fault_reply, full_reply};
 ghost use Rattle.mt_front.specs.Turns.{Tries, WritesReply, SaysReply, SaysMade, Converses, AnswersOne, AnswersRequest, AnswersFault, RefusesAs, turn_behind, turn_refused, served_of, SessionTurn};
 
-use crate::asks::{Asked, Echo, asked_by};
-use crate::batch::batch_of;
+use crate::asks::{Asked, asked_by};
+use crate::reads::{Read, rows_reply};
 use crate::refusals::{
-    BadRequest, bad_request, cause_reply, head_refusal, history_full, no_memory, store_fault,
+    BadRequest, bad_part, bad_request, head_refusal, history_full, no_memory, refusal_reply,
+    store_fault,
 };
-use crate::reply::{done, prepare};
-use mt_chain::{Keeper, Op, Refusal, Tags};
+use crate::writes::Writes;
+use mt_chain::{Keeper, Refusal, Tags};
 use mt_http_in::{Code, InFault, Incoming, Reader, read_request};
 use mt_http_out::{Reply, render};
 use mt_io::{IoFault, Sink, Source, send};
-use mt_model::{NoMemory, Tag, Text};
+use mt_model::{Entities, NoMemory, Text};
 use mt_world::{Answer, Request, TurnFault, World};
 use std::alloc::Global;
 
@@ -58,14 +55,17 @@ pub enum ConnFault {
     NoMemory,
 }
 
-/// How an operation came out.
-#[derive(Clone, Copy, Debug, PartialEq, Eq)]
+/// How a request came out.
+#[derive(Drop)]
 enum Outcome {
-    /// It was done, and this is the tag of its row.
-    Done(Tag),
+    /// Its operations were done, and these are the tags of their rows.
+    Done(Tags),
 
-    /// The table refused it.
+    /// The table refused one of its operations.
     Refused(Refusal),
+
+    /// These rows were found.
+    Found(Entities),
 
     /// A store failed.
     Fault,
@@ -130,59 +130,108 @@ fn send_refusal<T: Sink>(
     send_reply(out, sink, bad_request(alloc, refusal, close))
 }
 
-/// The tag of the one operation of a batch.
-fn only_tag(tags: &Tags) -> Tag
-    requires { length tags.now ≡ 1 }
-    ensures { tags.now ≡ result ∷ [] }
+/// Says that a store failed.
+fn send_fault<T: Sink>(
+    alloc: Global,
+    out: &mut Vec<u8>,
+    sink: &mut T,
+    close: bool,
+) -> Result<(), ConnFault>
+    ensures { SaysReply (T.output sink.old) (bytes_of (fault_reply close)) result (T.output sink.new) }
 {
-    match tags.as_slice() {
-        [tag] => *tag,
-        _ => unreachable!(),
-    }
+    send_reply(out, sink, store_fault(alloc, close))
 }
 
-/// Tries an operation on the world, as a batch of one. The one error is want of memory.
-fn try_op<K: Keeper>(alloc: Global, world: &mut World<K>, op: Op) -> Result<Outcome, NoMemory>
-    requires { MayAsk op × (visible_size (op_props op) ≤ 1048576) }
-    ensures { Tries 0 world.old op result world.new }
+/// Says that the history is full.
+fn send_full<T: Sink>(
+    alloc: Global,
+    out: &mut Vec<u8>,
+    sink: &mut T,
+    close: bool,
+) -> Result<(), ConnFault>
+    ensures { SaysReply (T.output sink.old) (bytes_of (full_reply close)) result (T.output sink.new) }
 {
-    let batch = batch_of(alloc, op)?;
-    let call = world.call_of(alloc, Request::Batch(batch))?;
+    send_reply(out, sink, history_full(alloc, close))
+}
+
+/// Tries a request on the world. The one error is want of memory.
+fn try_request<K: Keeper>(
+    alloc: Global,
+    world: &mut World<K>,
+    request: Request,
+) -> Result<Outcome, NoMemory>
+    ensures { Tries 0 world.old request result world.new }
+{
+    let call = world.call_of(alloc, request)?;
     match world.finish(alloc, CALLER, call) {
-        Ok(Answer::Written(tags)) => Ok(Outcome::Done(only_tag(&tags))),
+        Ok(Answer::Written(tags)) => Ok(Outcome::Done(tags)),
         Ok(Answer::Refused(refusal)) => Ok(Outcome::Refused(refusal)),
-        Ok(Answer::Rows(_)) => unreachable!(),
+        Ok(Answer::Rows(rows)) => Ok(Outcome::Found(rows)),
         Err(TurnFault::StoreFault) => Ok(Outcome::Fault),
         Err(TurnFault::HistoryFull) => Ok(Outcome::Full),
         Err(TurnFault::NoMemory) => Err(NoMemory),
     }
 }
 
-/// Tries an operation and writes its reply. All memory for the reply to one that is done is taken
-/// before it is tried; there may be none for another reply.
-fn write_row<K: Keeper, T: Sink>(
+/// Tries operations and writes their reply. All memory for the reply to those that are done is taken
+/// before they are tried; there may be none for another reply.
+fn write_rows<K: Keeper, T: Sink>(
     alloc: Global,
     world: &mut World<K>,
     out: &mut Vec<u8>,
     sink: &mut T,
-    op: Op,
-    echo: Echo,
+    writes: Writes,
     keep: bool,
 ) -> Result<(), ConnFault>
-    requires { CanTry (asked.Write op echo) }
-    ensures { AnswersOne 0 world.old (T.output sink.old) (asked.Write op echo) keep result world.new (T.output sink.new) }
+    ensures { AnswersOne 0 world.old (T.output sink.old) (asked.Write writes) keep result world.new (T.output sink.new) }
 {
     let close = !keep;
-    let Ok(prepared) = prepare(alloc, &op, echo, close) else {
+    let change_set = writes.is_change_set();
+    let Ok(draft) = writes.draft(alloc, close) else {
         return Err(ConnFault::NoMemory);
     };
-    match try_op(alloc, world, op) {
-        Ok(Outcome::Done(tag)) => send_bytes(sink, &done(prepared, tag)),
+    match try_request(alloc, world, Request::Batch(writes.into_batch())) {
+        Ok(Outcome::Done(tags)) => send_bytes(sink, &draft.finish(&tags)),
         Ok(Outcome::Refused(refusal)) => {
-            send_reply(out, sink, cause_reply(alloc, refusal.cause, close))
+            send_reply(out, sink, refusal_reply(alloc, change_set, refusal, close))
         }
-        Ok(Outcome::Fault) => send_reply(out, sink, store_fault(alloc, close)),
-        Ok(Outcome::Full) => send_reply(out, sink, history_full(alloc, close)),
+        Ok(Outcome::Found(_)) => unreachable!(),
+        Ok(Outcome::Fault) => send_fault(alloc, out, sink, close),
+        Ok(Outcome::Full) => send_full(alloc, out, sink, close),
+        Err(NoMemory) => Err(ConnFault::NoMemory),
+    }
+}
+
+/// Reads rows and writes the reply that shows them.
+fn read_rows<K: Keeper, T: Sink>(
+    alloc: Global,
+    world: &mut World<K>,
+    out: &mut Vec<u8>,
+    sink: &mut T,
+    read: Read,
+    keep: bool,
+) -> Result<(), ConnFault>
+    ensures { AnswersOne 0 world.old (T.output sink.old) (asked.Read read) keep result world.new (T.output sink.new) }
+{
+    let close = !keep;
+    let Read {
+        pk,
+        filter,
+        shape,
+        show,
+    } = read;
+    match try_request(alloc, world, Request::Query { pk, filter }) {
+        Ok(Outcome::Done(_)) => unreachable!(),
+        Ok(Outcome::Refused(_)) => unreachable!(),
+        Ok(Outcome::Found(rows)) => {
+            send_reply(
+                out,
+                sink,
+                rows_reply(alloc, shape, &show, rows.as_slice(), close),
+            )
+        }
+        Ok(Outcome::Fault) => send_fault(alloc, out, sink, close),
+        Ok(Outcome::Full) => send_full(alloc, out, sink, close),
         Err(NoMemory) => Err(ConnFault::NoMemory),
     }
 }
@@ -196,12 +245,13 @@ fn answer<K: Keeper, T: Sink>(
     asks: Asked,
     keep: bool,
 ) -> Result<(), ConnFault>
-    requires { CanTry asks }
     ensures { AnswersOne 0 world.old (T.output sink.old) asks keep result world.new (T.output sink.new) }
 {
     match asks {
-        Asked::Write { op, echo } => write_row(alloc, world, out, sink, op, echo, keep),
+        Asked::Write(writes) => write_rows(alloc, world, out, sink, writes, keep),
+        Asked::Read(read) => read_rows(alloc, world, out, sink, read, keep),
         Asked::Refused(refusal) => send_refusal(alloc, out, sink, refusal, !keep),
+        Asked::RefusedPart(bad) => send_reply(out, sink, bad_part(alloc, bad, !keep)),
     }
 }
 

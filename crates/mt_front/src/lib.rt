@@ -2,19 +2,22 @@
 #![tactic(auto)]
 
 mod asks;
-mod batch;
+mod change_sets;
+mod changes;
 mod connection;
 mod fields;
 mod methods;
+mod reads;
 mod refusals;
-mod reply;
 mod routes;
+mod writes;
 
-pub use asks::{Asked, Echo, asked_by};
-pub use batch::batch_of;
+pub use asks::{Asked, asked_by};
 pub use connection::{ConnFault, End, Served, session};
 pub use methods::Resource;
+pub use reads::{Read, Shape};
 pub use refusals::{
-    BadRequest, bad_request, cause_reply, head_refusal, history_full, no_memory, store_fault,
+    BadPart, BadRequest, bad_part, bad_request, cause_reply, head_refusal, history_full, no_memory,
+    refusal_reply, store_fault,
 };
-pub use reply::{Prepared, done, prepare};
+pub use writes::Writes;

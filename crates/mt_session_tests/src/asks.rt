@@ -1,8 +1,9 @@
-//! What single requests ask for: the operation, or the first refusal.
+//! What single requests ask for: the operation, the rows, or the first refusal.
 use mt_chain::{Cond, Op};
-use mt_front::{Asked, BadRequest, Echo, Resource, asked_by};
+use mt_front::{Asked, BadPart, BadRequest, Resource, Shape, Writes, asked_by};
 use mt_http_in::{Field, Fields, Incoming};
 use mt_json::Level;
+use mt_mime::Echo;
 use mt_model::{Blob, Key, Name, Prop, Props, Tag, Text, Value};
 use mt_target::Service;
 use std::alloc::Global;
@@ -28,7 +29,12 @@ enum Got {
     Delete(Cond),
     InsertOrReplace,
     InsertOrMerge,
+
+    /// So many operations of a change set.
+    ChangeSet(usize),
+    Read(Shape),
     Refused(BadRequest),
+    RefusedPart(BadPart),
 }
 
 const TAG: Tag = Tag { store: 1, n: 7 };
@@ -99,10 +105,19 @@ fn op_shortly(op: &Op, echo: Echo) -> Got {
     }
 }
 
+fn writes_shortly(writes: &Writes) -> Got {
+    match (writes.is_change_set(), writes.ops(), writes.echoes()) {
+        (false, [op], [echo]) => op_shortly(op, *echo),
+        (_, ops, _) => Got::ChangeSet(ops.len()),
+    }
+}
+
 fn shortly(asked: &Asked) -> Got {
     match asked {
+        Asked::Write(writes) => writes_shortly(writes),
+        Asked::Read(read) => Got::Read(read.shape),
         Asked::Refused(refusal) => Got::Refused(*refusal),
-        Asked::Write { op, echo } => op_shortly(op, *echo),
+        Asked::RefusedPart(bad) => Got::RefusedPart(*bad),
     }
 }
 
@@ -139,8 +154,8 @@ fn methods_of_resources(rt: HostRuntime) -> Result<(), Fail> {
         ("DELETE", ENTITY, UNMATCHED),
         ("GET", "/Orders", UNSUPPORTED),
         ("GET", "/Orders()", UNSUPPORTED),
-        ("GET", ENTITY, UNSUPPORTED),
-        ("POST", "/$batch", UNSUPPORTED),
+        ("GET", ENTITY, Got::Read(Shape::One)),
+        ("POST", "/$batch", Got::Refused(BadRequest::InvalidBatch)),
         ("POST", "/$mt/migrate?steps=1", UNSUPPORTED),
         ("GET", "/$mt/status", UNSUPPORTED),
         ("DELETE", "/Tables('x')", UNSUPPORTED),
@@ -471,7 +486,10 @@ fn props_of(op: &Op) -> Option<&Props> {
 
 /// Whether an operation on the key `P`, `r` with the property `A` is asked for, or a delete there.
 fn is_as_sent(alloc: Global, asked: &Asked) -> Result<bool, Fail> {
-    let Asked::Write { op, .. } = asked else {
+    let Asked::Write(writes) = asked else {
+        return Ok(false);
+    };
+    let [op] = writes.ops() else {
         return Ok(false);
     };
     let want = Key::read(alloc, "P", "r")?;

@@ -1,9 +1,0 @@
-use Rattle.std.proofs.Common.{◌≡◌, length}
-use Rattle.mt_front.specs.Fields.{stands_in}
-use Rattle.mt_front.proofs.fields.stands_in.Given as goal
-
-abbrev pub invariant-places : goal.invariant-places
-invariant-places l = stands_in l.word l.rest ≡ stands_in l.word l.value
-
-abbrev pub decreases-places : goal.decreases-places
-decreases-places l = length l.rest

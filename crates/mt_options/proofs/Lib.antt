@@ -1,0 +1,5 @@
+mod LevelLaws
+mod SplitLaws
+mod ByteLaws
+mod TokenLaws
+pub mod Theorems
