@@ -55,7 +55,7 @@ done_plain pk None = tt
 done_plain pk (Some rk) = (tt, tt)
 
 -- no fact of a cleaner speaks of an epoch
-all_plain : (state : State) → AllPlain (state_facts state)
+pub all_plain : (state : State) → AllPlain (state_facts state)
 all_plain at.Walk = tt
 all_plain (at.Tombs pk after) = (tt, (tt, done_plain pk after))
 all_plain (at.Purge pk upto tombs) = (tt, (tt, (tt, plain_rows New pk tombs)))

@@ -146,6 +146,14 @@ impl Cleaner {
         }
     }
 
+    /// Whether it has come to its end.
+    pub fn is_done(&self) -> bool
+        ensures value { result ≡ is_done self.now }
+        ensures valid { CleanerFits self.now }
+    {
+        matches!(self.state, State::Done)
+    }
+
     /// The next store call of a cleaner that is not done: old's first partition; a read of a marker and
     /// of at most 100 rows; or deletes of rows that were read, in old under a put of the marker. The one
     /// error is want of memory.

@@ -1,69 +1,40 @@
 -- How a request came out over a world.
-use Rattle.std.proofs.Common.{◌≡◌, ℕ, ◌-◌, true, false, List, [], ◌∷◌, ◌++◌, Option, Some, None, Err, refl, sym, ap, ◌∙◌, arith, subst, append-nil}
-use Rattle.std.specs.Prelude.{All, Bool, not, is_some, IfSome}
+use Rattle.std.proofs.Common.{◌≡◌, ℕ, ◌-◌, true, false, List, [], ◌∷◌, Option, Some, None, Ok, Err, refl, sym, ap, ◌∙◌, arith, subst, append-nil}
+use Rattle.std.specs.Prelude.{All, Bool, not, Result, IfSome, ◌++◌}
+use Rattle.std.specs.List.{AllByRecursion, list_any}
 use Rattle.std.specs.Option.{option_to_list}
 use Rattle.std.proofs.lemmas.List.{drop_all}
 use Rattle.std.proofs.lemmas.List.Elements.{All-nil, All-cons}
-use Rattle.mt_chain.specs.Table.{table_of, rows_of}
+use Rattle.mt_chain.specs.declared.op.Op.{Op}
+use Rattle.mt_filter.specs.declared.filter.Filter.{Filter}
 use Rattle.mt_history.specs.declared.entry.Entry.{Entry}
+use Rattle.mt_history.specs.declared.entry.What.TheVariants as what
 use Rattle.mt_history.specs.Kept.{has_room}
-use Rattle.mt_history.specs.Replies.{Replies}
+use Rattle.mt_scan.specs.declared.unit.Unit.{Unit as PageUnit}
+use Rattle.mt_scan.specs.declared.unit.Unit.TheVariants.{Scan, Gap}
+use Rattle.mt_scan.specs.Units.{IsEntryOf}
+use Rattle.mt_scan.specs.Streams.{Step}
 use Rattle.mt_world.specs.declared.actor.Request.{Request}
 use Rattle.mt_world.specs.declared.actor.Request.TheVariants as request
+use Rattle.mt_world.specs.declared.actor.Answer.{Answer}
+use Rattle.mt_world.specs.declared.actor.Answer.TheVariants as answer
+use Rattle.mt_world.specs.declared.actor.TurnFault.{TurnFault}
 use Rattle.mt_world.specs.declared.actor.TurnFault.TheVariants as fault
-use Rattle.mt_world.specs.Worlds.{WorldState, Tells, table_now, entry_of}
+use Rattle.mt_world.specs.Worlds.{WorldState, Tells}
 use Rattle.mt_world.specs.Moves.{NewEntry, fault_entry}
-use Rattle.mt_world.specs.Logs.{entries_with}
-use Rattle.mt_world.specs.Turns.{IsSameWorld, RepliesAt}
-use Rattle.mt_world.specs.WholeCalls.{Mark, CallAnswers}
+use Rattle.mt_world.specs.Turns.{EitherRose}
 use Rattle.mt_world.specs.Turns as turns
+use Rattle.mt_world.specs.WholeCalls.{Mark, batch_entry, query_entry}
+use Rattle.mt_world.specs.PageCalls.{AreStepEntries, entries_at_end}
 use Rattle.mt_front.specs.declared.asks.Asked.{Asked}
 use Rattle.mt_front.specs.declared.connection.Outcome.{Outcome}
 use Rattle.mt_front.specs.declared.connection.Outcome.TheVariants as outcome
-use Rattle.std.specs.List.{AllByRecursion, list_any}
 use Rattle.mt_front.specs.Items.{Item, Bad, is_full, is_fault, need_of, entries_of}
-use Rattle.mt_front.specs.Answers.{Past, FitsFrom, RepliesFound, NoneOf, Counts, AtMost, IsCaused, BreaksOff, MayStay, past_end, entries_from, found, table_found}
-use Rattle.mt_front.specs.Session.{past_of, counts_of, ToldBefore, Added}
-use Rattle.mt_front.specs.Turns.{CameOut, BrokeOff, LeavesNothing, Tried, IsOwn, room_for, entry_by, answer_of, tried_item, outcome_of, left_by}
-use Rattle.mt_front.proofs.FitLaws.{grown}
-use Rattle.mt_front.proofs.OwnLaws.{AreOwn, left_at, room_at, marks_at, none_at, table_at}
+use Rattle.mt_front.specs.Answers.{Past, FitsFrom, NoneOf, Counts, IsCaused, MayStay, past_end, entries_from, found, behind}
+use Rattle.mt_front.specs.Session.{past_of, counts_of, Added}
+use Rattle.mt_front.specs.Turns.{CameOut, BrokeOff, Tried, IsOwn, Leaves, room_for, answer_of, tried_item, outcome_of}
 use Rattle.mt_front.proofs.CauseLaws.{most_self}
-
--- ---- worlds that differ in their history and their counts alone
-
-pub same_self : (w : WorldState) → IsSameWorld w w
-same_self w = record { old_number = refl; new_number = refl; base = refl; first = refl; limit = refl; generation = refl; opened_faults = refl }
-
-pub same_then : (u v w : WorldState) → IsSameWorld u v → IsSameWorld v w → IsSameWorld u w
-same_then u v w p q = record {
-  old_number = q.old_number ∙ p.old_number;
-  new_number = q.new_number ∙ p.new_number;
-  base = q.base ∙ p.base;
-  first = q.first ∙ p.first;
-  limit = q.limit ∙ p.limit;
-  generation = q.generation ∙ p.generation;
-  opened_faults = q.opened_faults ∙ p.opened_faults;
-}
-
--- ---- stores that tell told before
-
-pub told_self : (w : WorldState) → ToldBefore w w
-told_self w = record { old_told = λ e. e; new_told = λ e. e }
-
-pub told_then : (u v w : WorldState) → ToldBefore u v → ToldBefore v w → ToldBefore u w
-told_then u v w p q = record { old_told = λ e. p.old_told (q.old_told e); new_told = λ e. p.new_told (q.new_told e) }
-
-pub tells_before : (w w' : WorldState) → ToldBefore w w' → Tells w' → Tells w
-tells_before w w' p t = record { old = p.old_told t.old; new = p.new_told t.new }
-
--- ---- the history afterwards
-
-pub past_grown : (w w' : WorldState) (more : List Entry) → IsSameWorld w w' → w'.history.entries ≡ w.history.entries ++ more → past_of w' ≡ grown (past_of w) more
-past_grown w w' more same grew =
-    ap (λ n. record { window = record { first = n; base = table_of (rows_of w'.base); entries = w'.history.entries }; limit = w'.history.limit }) same.first
-    ∙ ap (λ b. record { window = record { first = w.history.first; base = table_of (rows_of b); entries = w'.history.entries }; limit = w'.history.limit }) same.base
-    ∙ ap (λ (l : List Entry). record { window = record { first = w.history.first; base = table_of (rows_of w.base); entries = l }; limit = w'.history.limit }) grew
-    ∙ ap (λ n. record { window = record { first = w.history.first; base = table_of (rows_of w.base); entries = w.history.entries ++ more }; limit = n }) same.limit
+use Rattle.mt_front.proofs.MarkLaws.{Marked, same_self, told_self}
 
 -- ---- what is refused before anything is tried
 
@@ -73,6 +44,10 @@ added_self c w = record { more = []; grew = sym (append-nil w.history.entries); 
 none_behind : (c : ℕ) (past : Past) → NoneOf c (entries_from past (past_end past))
 none_behind c past =
     subst (NoneOf c) (sym (drop_all (past_end past - past.window.first) past.window.entries (omega arith))) (All-nil (λ (e : Entry). e.caller ≡ c → ⊥))
+
+-- behind turns that came to its end there is none either
+none_after : (c : ℕ) (w w' : WorldState) (marks : List Mark) → behind (past_end (past_of w)) marks ≡ past_end (past_of w') → NoneOf c (entries_from (past_of w') (behind (past_end (past_of w)) marks))
+none_after c w w' marks ends = subst (λ n. NoneOf c (entries_from (past_of w') n)) (sym ends) (none_behind c (past_of w'))
 
 -- items that have no marks leave the history as it is
 pub fits_none : (c : ℕ) (T : Type 0) (past : Past) → FitsFrom c T past (past_end past) [] []
@@ -94,29 +69,11 @@ caused_bad s asks keep bytes = record { later = most_self s; rose = λ e. absurd
 
 -- ---- from the world's clause
 
-if_told : {A : Type 0} (x : Option A) (Q : Type 0) → is_some x ≡ true → IfSome x (λ a. Q) → Q
-if_told None Q e h = absurd (let f : false ≡ true = e in cc)
-if_told (Some a) Q e h = h
-
--- the entries that were added
-added_by : (xs : List Entry) (numbers : List (ℕ × ℕ)) (c : ℕ) (o : Option NewEntry) → (own : List Entry) × (entries_with xs numbers c o ≡ xs ++ own) × AreOwn c o own
-added_by xs numbers c None = ([], sym (append-nil xs), refl)
-added_by xs numbers c (Some e) = (entry_of numbers c e.what ∷ [], refl, (_, refl))
-
-own_callers : (c : ℕ) (o : Option NewEntry) (own : List Entry) → AreOwn c o own → All (λ (e : Entry). e.caller ≡ c) own
-own_callers c None own a = subst (All (λ (e : Entry). e.caller ≡ c)) (sym a) (All-nil (λ (e : Entry). e.caller ≡ c))
-own_callers c (Some e) own a =
-    subst (All (λ (e : Entry). e.caller ≡ c)) (sym a.1) (All-cons (λ (e : Entry). e.caller ≡ c) (record { caller = c; number = a.0; what = e.what }) [] refl (All-nil (λ (e : Entry). e.caller ≡ c)))
-
-module _ (w w' : WorldState) where
-  replies_then : (o : Option NewEntry) (past : Past) → table_found past (past_end (past_of w)) ≡ table_now w → RepliesAt w o w' → Tells w' → RepliesFound past (past_end (past_of w)) o
-  replies_then None past same r t = tt
-  replies_then (Some e) past same r t = subst (λ table. Replies e.what table e.reply) (sym same) (if_told w'.new_store.told _ t.new (if_told w'.old_store.told _ t.old r))
-
 full_by : (o : Outcome) → turns.is_full (answer_of o) ≡ is_full (outcome_of o)
 full_by (outcome.Done tags) = refl
 full_by (outcome.Refused refusal) = refl
 full_by (outcome.Found rows) = refl
+full_by (outcome.Paged page) = refl
 full_by outcome.Fault = refl
 full_by outcome.Full = refl
 
@@ -124,50 +81,42 @@ fault_by : (o : Outcome) → is_fault (outcome_of o) ≡ true → answer_of o �
 fault_by (outcome.Done tags) e = absurd cc
 fault_by (outcome.Refused refusal) e = absurd cc
 fault_by (outcome.Found rows) e = absurd cc
+fault_by (outcome.Paged page) e = absurd cc
 fault_by outcome.Fault e = refl
 fault_by outcome.Full e = absurd cc
 
 -- a request that was finished, with no other caller between
-pub tried : (c : ℕ) (w w' : WorldState) (q : Request) (o : Outcome) (marks : List Mark) → ToldBefore w w' → CallAnswers w c (room_for q) (entry_by q (answer_of o)) marks (answer_of o) w'
-    → IsOwn q o → (is_fault (outcome_of o) ≡ false → counts_of w' ≡ counts_of w) → Tried c w q o marks w'
-tried c w w' q o marks told a kind still =
-    let e : Option NewEntry = entry_by q (answer_of o) in
-    let more : (own : List Entry) × (entries_with w.history.entries w.numbers c e ≡ w.history.entries ++ own) × AreOwn c e own = added_by w.history.entries w.numbers c e in
-    let own : List Entry = more.0 in
-    let grew : w'.history.entries ≡ w.history.entries ++ own = a.entries ∙ more.1 in
-    record {
-      own = kind;
-      left = left_at (past_end (past_of w)) e marks a.marks_are;
-      came = λ asks keep reply need. record {
-        same = a.same;
-        told = told;
-        fits = subst (λ p. FitsFrom c (Tells w') p (past_end (past_of w)) (tried_item asks o keep marks reply ∷ []) []) (sym (past_grown w w' own a.same grew)) (
-          record {
-            marks = marks_at c (Tells w') (past_of w) e own more.2 (replies_then w w' e (grown (past_of w) own) (table_at c (Tells w') (past_of w) e own more.2) a.replies) marks a.marks_are;
-            room = subst (λ (n : Option ℕ). IfSome n (λ room. is_full (outcome_of o) ≡ list_any (λ (m : Mark). not (has_room (found (grown (past_of w) own) m.place) room)) marks)) (sym need)
-                (sym (full_by o) ∙ a.full ∙ sym (room_at c (Tells w') (past_of w) e own more.2 (room_for q) marks a.marks_are));
-          },
-          record { marks = tt; no_batch = All-nil (λ (m : Mark). MayStay m.entry); behind_them = none_at c (Tells w') (past_of w) e own more.2 marks a.marks_are },
-        );
-      };
-      caused = λ asks keep reply. record { later = record { old_store = a.old_faults; new_store = a.new_faults }; rose = λ f. a.cause (fault_by o f); still = λ n. still n };
-      added = record { more = own; grew = grew; own = own_callers c e own more.2; retired = a.retired };
-    }
+pub tried : (c : ℕ) (w w' : WorldState) (q : Request) (o : Outcome) (marks : List Mark) → Marked c (room_for q) (turns.is_full (answer_of o)) w marks w' → Leaves q (answer_of o) (entries_of marks) → IsOwn q o
+    → (answer_of o ≡ Err fault.StoreFault → EitherRose w w') → (is_fault (outcome_of o) ≡ false → counts_of w' ≡ counts_of w) → Tried c w q o marks w'
+tried c w w' q o marks m leaves kind cause still = record {
+  own = kind;
+  left = leaves;
+  came = λ asks keep reply need. record {
+    same = m.same;
+    told = m.told;
+    fits = (
+      record {
+        marks = m.marks_are;
+        room = subst (λ (n : Option ℕ). IfSome n (λ room. is_full (outcome_of o) ≡ list_any (λ (k : Mark). not (has_room (found (past_of w') k.place) room)) marks)) (sym need) (sym (full_by o) ∙ m.room);
+      },
+      record { marks = tt; no_batch = All-nil (λ (k : Mark). MayStay k.entry); behind_them = none_after c w w' marks m.ends },
+    );
+  };
+  caused = λ asks keep reply. record { later = m.later; rose = λ f. cause (fault_by o f); still = still };
+  added = m.added;
+}
 
 -- ---- an item that broke off
 
-past_same : (w w' : WorldState) → LeavesNothing w w' → past_of w' ≡ past_of w
-past_same w w' n = past_grown w w' [] n.same (n.entries ∙ sym (append-nil w.history.entries)) ∙ ap (λ (l : List Entry). record { window = record { first = w.history.first; base = (past_of w).window.base; entries = l }; limit = w.history.limit }) (append-nil w.history.entries)
-
--- where nothing was left there is no mark
-pub left_nothing : (c : ℕ) (w w' : WorldState) → LeavesNothing w w' → BrokeOff c w [] w'
-left_nothing c w w' n = record {
-  same = n.same;
-  told = n.told;
-  breaks = subst (λ p. BreaksOff c (Tells w') p (past_end (past_of w)) []) (sym (past_same w w' n)) (fits_none c (Tells w') (past_of w));
-  added = record { more = []; grew = n.entries ∙ sym (append-nil w.history.entries); own = All-nil (λ (e : Entry). e.caller ≡ c); retired = n.retired };
-  later = subst (λ t. AtMost (counts_of w) t) (sym n.still) (most_self (counts_of w));
-  still = λ e. n.still;
+-- where nothing was tried there is no mark
+pub nothing_broke : (c : ℕ) (w : WorldState) → BrokeOff c w [] w
+nothing_broke c w = record {
+  same = same_self w;
+  told = told_self w;
+  breaks = fits_none c (Tells w) (past_of w);
+  added = added_self c w;
+  later = most_self (counts_of w);
+  still = λ e. refl;
 }
 
 -- no entry of these is a batch that was applied
@@ -182,51 +131,95 @@ marks_stay (m ∷ marks) h =
     All-cons (λ (n : Mark). MayStay n.entry) m marks parts.0 (marks_stay marks parts.1)
 
 -- what came of a request was no batch that was applied
-abbrev pub IsUndone : Outcome → Type 0
-IsUndone (outcome.Done tags) = ⊥
-IsUndone (outcome.Refused refusal) = Unit {0}
-IsUndone (outcome.Found rows) = Unit {0}
-IsUndone outcome.Fault = Unit {0}
-IsUndone outcome.Full = Unit {0}
+abbrev pub IsUndone : Result Answer TurnFault → Type 0
+IsUndone (Ok (answer.Written tags)) = ⊥
+IsUndone r = Unit {0}
 
-left_stays : (q : Request) (o : Outcome) → IsUndone o → NoBatches (left_by q o)
-left_stays (request.Batch ops) (outcome.Done tags) u = absurd u
-left_stays (request.Batch ops) (outcome.Refused refusal) u = (λ batch tags e. cc, tt)
-left_stays (request.Batch ops) (outcome.Found rows) u = tt
-left_stays (request.Batch ops) outcome.Fault u = (λ batch tags e. cc, tt)
-left_stays (request.Batch ops) outcome.Full u = tt
-left_stays (request.Query pk filter) (outcome.Done tags) u = absurd u
-left_stays (request.Query pk filter) (outcome.Refused refusal) u = tt
-left_stays (request.Query pk filter) (outcome.Found rows) u = (λ batch tags e. cc, tt)
-left_stays (request.Query pk filter) outcome.Fault u = (λ batch tags e. cc, tt)
-left_stays (request.Query pk filter) outcome.Full u = tt
+batch_stays : (ops : List Op) (r : Result Answer TurnFault) → IsUndone r → NoBatches (option_to_list (batch_entry ops r))
+batch_stays ops (Ok (answer.Written tags)) u = absurd u
+batch_stays ops (Ok (answer.Refused refusal)) u = (λ batch tags e. cc, tt)
+batch_stays ops (Ok (answer.Rows rows)) u = tt
+batch_stays ops (Ok (answer.Page page)) u = tt
+batch_stays ops (Ok answer.Moved) u = tt
+batch_stays ops (Ok answer.Cleaned) u = tt
+batch_stays ops (Ok answer.NotSealed) u = tt
+batch_stays ops (Ok (answer.NotMigrated pk)) u = tt
+batch_stays ops (Err fault.StoreFault) u = (λ batch tags e. cc, tt)
+batch_stays ops (Err fault.HistoryFull) u = tt
+batch_stays ops (Err fault.NoMemory) u = tt
+
+query_stays : (pk : List ℕ) (filter : Option Filter) (r : Result Answer TurnFault) → NoBatches (option_to_list (query_entry pk filter r))
+query_stays pk filter (Ok (answer.Written tags)) = tt
+query_stays pk filter (Ok (answer.Refused refusal)) = tt
+query_stays pk filter (Ok (answer.Rows rows)) = (λ batch tags e. cc, tt)
+query_stays pk filter (Ok (answer.Page page)) = tt
+query_stays pk filter (Ok answer.Moved) = tt
+query_stays pk filter (Ok answer.Cleaned) = tt
+query_stays pk filter (Ok answer.NotSealed) = tt
+query_stays pk filter (Ok (answer.NotMigrated part)) = tt
+query_stays pk filter (Err fault.StoreFault) = (λ batch tags e. cc, tt)
+query_stays pk filter (Err fault.HistoryFull) = tt
+query_stays pk filter (Err fault.NoMemory) = tt
+
+end_stays : (r : Result Answer TurnFault) → NoBatches (entries_at_end r)
+end_stays (Ok answer) = tt
+end_stays (Err fault.StoreFault) = (λ batch tags e. cc, tt)
+end_stays (Err fault.HistoryFull) = tt
+end_stays (Err fault.NoMemory) = tt
+
+-- the entry of a unit is no batch
+unit_stays : (unit : PageUnit) (filter : Option Filter) (e : NewEntry) → IsEntryOf unit filter e.what → MayStay (Some e)
+unit_stays (Scan pk from upto) filter e is batch tags same = (let f : what.Scan pk from upto is.0 ≡ what.Batch batch tags = sym is.2 ∙ same in cc)
+unit_stays (Gap from to) filter e is batch tags same = (let f : what.Gap from to ≡ what.Batch batch tags = sym is.2 ∙ same in cc)
+
+steps_stay : (filter : Option Filter) (steps : List Step) (others es : List NewEntry) → NoBatches others → AreStepEntries filter steps others es → NoBatches es
+steps_stay filter [] others es none h = subst NoBatches (sym h) none
+steps_stay filter (s ∷ steps) others [] none h = absurd h
+steps_stay filter (s ∷ steps) others (e ∷ es) none h = (unit_stays s.unit filter e h.0.0, steps_stay filter steps others es none h.1)
+
+left_stays : (q : Request) (r : Result Answer TurnFault) (es : List NewEntry) → IsUndone r → Leaves q r es → NoBatches es
+left_stays (request.Batch ops) r es u l = subst NoBatches (sym l) (batch_stays ops r u)
+left_stays (request.Query pk filter) r es u l = subst NoBatches (sym l) (query_stays pk filter r)
+left_stays (request.Page filter top token) r es u l = steps_stay filter l.2.steps (entries_at_end r) es (end_stays r) l.2.entries
 
 -- a failed store has its entry
-left_of_fault : (q : Request) → left_by q outcome.Fault ≡ fault_entry ∷ []
-left_of_fault (request.Batch ops) = refl
-left_of_fault (request.Query pk filter) = refl
+steps_leave : (filter : Option Filter) (steps : List Step) (e : NewEntry) → AreStepEntries filter steps (e ∷ []) [] → ⊥
+steps_leave filter [] e h = (let f : ◌≡◌ {A = List NewEntry} [] (e ∷ []) = h in cc)
+steps_leave filter (s ∷ steps) e h = h
 
-none_still : (c : ℕ) (w w' : WorldState) (q : Request) (o : Outcome) (marks : List Mark) (asks : Asked) → IsUndone o → Tried c w q o marks w' → marks ≡ [] → counts_of w' ≡ counts_of w
-none_still c w w' q (outcome.Done tags) marks asks u t none = absurd u
-none_still c w w' q (outcome.Refused refusal) marks asks u t none = (t.caused asks true []).still refl
-none_still c w w' q (outcome.Found rows) marks asks u t none = (t.caused asks true []).still refl
-none_still c w w' q outcome.Fault marks asks u t none = absurd (let e : ◌≡◌ {A = List NewEntry} [] (fault_entry ∷ []) = sym (ap entries_of none) ∙ t.left ∙ left_of_fault q in cc)
-none_still c w w' q outcome.Full marks asks u t none = (t.caused asks true []).still refl
+fault_leaves : (q : Request) → Leaves q (Err fault.StoreFault) [] → ⊥
+fault_leaves (request.Batch ops) l = (let f : ◌≡◌ {A = List NewEntry} [] (fault_entry ∷ []) = l in cc)
+fault_leaves (request.Query pk filter) l = (let f : ◌≡◌ {A = List NewEntry} [] (fault_entry ∷ []) = l in cc)
+fault_leaves (request.Page filter top token) l = steps_leave filter l.2.steps fault_entry l.2.entries
+
+none_still : (c : ℕ) (w w' : WorldState) (q : Request) (o : Outcome) (marks : List Mark) (asks : Asked) → Tried c w q o marks w' → marks ≡ [] → counts_of w' ≡ counts_of w
+none_still c w w' q (outcome.Done tags) marks asks t none = (t.caused asks true []).still refl
+none_still c w w' q (outcome.Refused refusal) marks asks t none = (t.caused asks true []).still refl
+none_still c w w' q (outcome.Found rows) marks asks t none = (t.caused asks true []).still refl
+none_still c w w' q (outcome.Paged page) marks asks t none = (t.caused asks true []).still refl
+none_still c w w' q outcome.Fault marks asks t none = absurd (fault_leaves q (subst (Leaves q (Err fault.StoreFault)) (ap entries_of none) t.left))
+none_still c w w' q outcome.Full marks asks t none = (t.caused asks true []).still refl
 
 -- a request was tried and nothing was applied, and there was no memory for its reply
-pub tried_off : (c : ℕ) (w w' : WorldState) (q : Request) (o : Outcome) (marks : List Mark) (asks : Asked) → need_of asks ≡ Some (room_for q) → IsUndone o → Tried c w q o marks w' → BrokeOff c w marks w'
+pub tried_off : (c : ℕ) (w w' : WorldState) (q : Request) (o : Outcome) (marks : List Mark) (asks : Asked) → need_of asks ≡ Some (room_for q) → IsUndone (answer_of o) → Tried c w q o marks w' → BrokeOff c w marks w'
 tried_off c w w' q o marks asks need u t =
     let came : CameOut c w (tried_item asks o true marks []) w' = t.came asks true [] need in
     record {
       same = came.same;
       told = came.told;
-      breaks = record { marks = came.fits.0.marks; no_batch = marks_stay marks (subst NoBatches (sym t.left) (left_stays q o u)); behind_them = came.fits.1.behind_them };
+      breaks = record { marks = came.fits.0.marks; no_batch = marks_stay marks (left_stays q (answer_of o) (entries_of marks) u t.left); behind_them = came.fits.1.behind_them };
       added = t.added;
       later = (t.caused asks true []).later;
-      still = none_still c w w' q o marks asks u t;
+      still = none_still c w w' q o marks asks t;
     }
 
--- a call that had no memory leaves nothing
-pub left_none : (c : ℕ) (w w' : WorldState) (q : Request) (marks : List Mark) → ToldBefore w w' → CallAnswers w c (room_for q) (entry_by q (Err fault.NoMemory)) marks (Err fault.NoMemory) w' → counts_of w' ≡ counts_of w → LeavesNothing w w'
-left_none c w w' (request.Batch ops) marks told a still = record { same = a.same; retired = a.retired; told = told; entries = a.entries; still = still }
-left_none c w w' (request.Query pk filter) marks told a still = record { same = a.same; retired = a.retired; told = told; entries = a.entries; still = still }
+-- a call had no memory
+pub starved : (c : ℕ) (w w' : WorldState) (q : Request) (marks : List Mark) → Marked c (room_for q) false w marks w' → Leaves q (Err fault.NoMemory) (entries_of marks) → counts_of w' ≡ counts_of w → BrokeOff c w marks w'
+starved c w w' q marks m leaves still = record {
+  same = m.same;
+  told = m.told;
+  breaks = record { marks = m.marks_are; no_batch = marks_stay marks (left_stays q (Err fault.NoMemory) (entries_of marks) tt leaves); behind_them = none_after c w w' marks m.ends };
+  added = m.added;
+  later = m.later;
+  still = λ e. still;
+}

@@ -10,7 +10,7 @@ use Rattle.mt_front.specs.Answers.{Counts, AtMost, IsCaused, AreCaused, AreCause
 pub most_self : (s : Counts) → AtMost s s
 most_self s = record { old_store = omega arith; new_store = omega arith }
 
-most_then : (s t u : Counts) → AtMost s t → AtMost t u → AtMost s u
+pub most_then : (s t u : Counts) → AtMost s t → AtMost t u → AtMost s u
 most_then s t u p q = record { old_store = omega (arith, p.old_store, q.old_store); new_store = omega (arith, p.new_store, q.new_store) }
 
 -- one item more

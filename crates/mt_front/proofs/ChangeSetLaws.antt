@@ -1,5 +1,5 @@
 -- The requests of a change set, one after the other.
-use Rattle.std.proofs.Common.{◌≡◌, ℕ, ◌+◌, ◌<◌, ◌≤◌, true, false, List, [], ◌∷◌, ◌++◌, length, take, drop, get_or, All, Ok, Err, refl, sym, ap, ◌∙◌, subst, inl, inr, arith, rules}
+use Rattle.std.proofs.Common.{◌≡◌, ℕ, ◌+◌, ◌<◌, ◌≤◌, List, [], ◌∷◌, ◌++◌, length, take, drop, get_or, All, Ok, Err, sym, ap, ◌∙◌, subst, inl, arith, rules}
 use Rattle.std.specs.Prelude.{Result, IfOk}
 use Rattle.std.specs.List.{AllZip}
 use Rattle.std.proofs.lemmas.List.{take_more, drop_more, take_all, take-append-drop, length-take-le}
@@ -11,13 +11,10 @@ use Rattle.mt_mime.specs.declared.forms.Echo.{Echo}
 use Rattle.mt_mime.specs.declared.changes.Part.{Part}
 use Rattle.mt_mime.specs.Replies.{HasEcho}
 use Rattle.mt_front.specs.declared.refusals.BadRequest.{BadRequest}
-use Rattle.mt_front.specs.declared.changes.Change.{Change}
 use Rattle.mt_front.specs.declared.changes.Change.TheVariants as change
 use Rattle.mt_front.specs.Changes.{CanTry}
 use Rattle.mt_front.specs.declared.asks.Asked.{Asked}
-use Rattle.mt_front.specs.declared.asks.Asked.TheVariants as asked
-use Rattle.mt_front.specs.declared.refusals.BadRequest.TheVariants.{InvalidBatch}
-use Rattle.mt_mime.specs.Changes.{Batch, SpellsBatch, HasNoBatch, parts_of}
+use Rattle.mt_mime.specs.Changes.{Batch, SpellsBatch, parts_of}
 use Rattle.mt_front.specs.ChangeSets.{AsksPart, Gathers, FirstRefused, AsksTogether, AsksSet, AsksWithin}
 
 -- the requests ask for these operations, which may be tried

@@ -57,7 +57,7 @@ module _ (c : ℕ) (T : Type 0) (past : Past) where
 -- ---- under a stronger premise less is said
 
 module _ (c : ℕ) (T T' : Type 0) (f : T' → T) (past : Past) where
-  marks_sooner : (from : ℕ) (marks : List Mark) → AreNextMarks c T past from marks → AreNextMarks c T' past from marks
+  pub marks_sooner : (from : ℕ) (marks : List Mark) → AreNextMarks c T past from marks → AreNextMarks c T' past from marks
   marks_sooner from [] h = tt
   marks_sooner from (m ∷ marks) h = (
     record { order = h.0.order; within = h.0.within; between = h.0.between; stands = h.0.stands; replies = λ t. h.0.replies (f t) },
@@ -100,11 +100,11 @@ module _ (c : ℕ) (T : Type 0) (past : Past) (more : List Entry) where
     replies = λ t. replies_more m.entry m.place h.within (h.replies t);
   }
 
-  marks_more : (from : ℕ) (marks : List Mark) → AreNextMarks c T past from marks → AreNextMarks c T (grown past more) from marks
+  pub marks_more : (from : ℕ) (marks : List Mark) → AreNextMarks c T past from marks → AreNextMarks c T (grown past more) from marks
   marks_more from [] h = tt
   marks_more from (m ∷ marks) h = (next_more from m h.0, marks_more (place_behind m.place m.entry) marks h.1)
 
-  room_more : (need : ℕ) (from : ℕ) (marks : List Mark) → AreNextMarks c T past from marks
+  pub room_more : (need : ℕ) (from : ℕ) (marks : List Mark) → AreNextMarks c T past from marks
       → list_any (λ (m : Mark). not (has_room (found (grown past more) m.place) need)) marks ≡ list_any (λ (m : Mark). not (has_room (found past m.place) need)) marks
   room_more need from [] h = refl
   room_more need from (m ∷ marks) h =

@@ -1,13 +1,17 @@
 mod BodyKeyLaws
 mod CallLaws
 mod CameLaws
+mod MarkLaws
 mod ChangeLaws
 mod ChangeSetLaws
 pub mod CauseLaws
 pub mod FitLaws
 mod OwnLaws
+mod PageLaws
+mod PageReplyLaws
 mod ReadLaws
 mod RefusalLaws
+mod RouteLaws
 mod SpellLaws
 mod TalkLaws
 mod TurnLaws

@@ -27,7 +27,7 @@ own_stands : (c : ℕ) (o : Option NewEntry) (own : List Entry) → AreOwn c o o
 own_stands c None own a = tt
 own_stands c (Some e) own a = (a.0, [], a.1)
 
-own_long : (c : ℕ) (o : Option NewEntry) (own : List Entry) (n : ℕ) → AreOwn c o own → n + length own ≡ place_behind n o
+pub own_long : (c : ℕ) (o : Option NewEntry) (own : List Entry) (n : ℕ) → AreOwn c o own → n + length own ≡ place_behind n o
 own_long c None own n a = let l : length own ≡ 0 = ap length a in omega (arith, l)
 own_long c (Some e) own n a = let l : length own ≡ 1 = ap length a.1 in omega (arith, l)
 
@@ -42,7 +42,7 @@ or_same : (b : Bool) → (b || b) ≡ b
 or_same true = refl
 or_same false = refl
 
-or_none : (b : Bool) → (b || false) ≡ b
+pub or_none : (b : Bool) → (b || false) ≡ b
 or_none true = refl
 or_none false = refl
 

@@ -4,8 +4,8 @@ use Rattle.std.specs.Prelude.{Result, Bool, IfSome, ◌⊎◌}
 use Rattle.std.proofs.lemmas.List.Elements.{All-nil, All-cons, All-append}
 use Rattle.httparse.specs.Grammar.{print_request}
 use Rattle.mt_io.specs.declared.IoFault.{IoFault}
-use Rattle.mt_io.specs.Ends.{Input, Output, Rose, Sends, before_known, after_known}
-use Rattle.mt_io.proofs.Pieces.{before_nothing, after_nothing, after_after}
+use Rattle.mt_io.specs.Ends.{Input, Output, Rose, Sends, before_known}
+use Rattle.mt_io.proofs.Pieces.{before_nothing, after_nothing}
 use Rattle.mt_http_in.specs.Reading.{ahead, Later, Spent, Failed}
 use Rattle.mt_http_in.specs.Requests.{continue_of, BrokeIn, BrokeOut}
 use Rattle.mt_http_in.proofs.FillLaws.{later_then, spent_then, failed_then, ended_then}
@@ -27,7 +27,8 @@ use Rattle.mt_front.specs.Spells.{SpellsAll}
 use Rattle.mt_front.specs.Session.{Sent, Cut, past_of, counts_of, Added, Talk, Course, IsCourse, IsRefused, MayBreak, AtNoMemory, SessionAs, Serves}
 use Rattle.mt_front.specs.Turns.{BrokeOff, CameOut, OneMore, IsRefusal, SessionTurn, AtWant, ConversesAs, Converses, served_of}
 use Rattle.mt_front.proofs.FitLaws.{grown, fits_sooner, fits_join}
-use Rattle.mt_front.proofs.CameLaws.{same_self, same_then, told_self, told_then, tells_before, past_grown, added_self, fits_none}
+use Rattle.mt_front.proofs.MarkLaws.{same_self, same_then, told_self, told_then, tells_before, past_grown}
+use Rattle.mt_front.proofs.CameLaws.{added_self, fits_none}
 use Rattle.mt_front.proofs.CauseLaws.{caused_more, caused_all, caused_whole}
 use Rattle.mt_front.proofs.SpellLaws.{spells_more}
 use Rattle.mt_front.proofs.TurnLaws.{sent_after, cut_after}

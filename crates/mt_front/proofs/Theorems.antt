@@ -4,7 +4,7 @@ use Rattle.httparse.specs.Grammar.{RequestHead}
 use Rattle.mt_http_in.specs.declared.Code.{Code}
 use Rattle.mt_http_in.specs.Fields.{keeps_open}
 use Rattle.mt_http_in.specs.Heads.{fields_of}
-use Rattle.mt_http_in.specs.Requests.{Spells as SpellsRequest, Refuses}
+use Rattle.mt_http_in.specs.Requests.{Refuses}
 use Rattle.mt_http_in.proofs.UniqueLaws.{Same, one_request, refused_is_no_request}
 use Rattle.mt_front.specs.Asks.{WholeAsks, request_by}
 use Rattle.mt_front.specs.Items.{Item}

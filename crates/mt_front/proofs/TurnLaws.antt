@@ -35,8 +35,8 @@ use Rattle.mt_front.specs.Asks.{RequestAsks, AsksUnpacked, request_by, request_o
 use Rattle.mt_front.specs.Items.{Item, Bad, Renders, IsRendered, need_of, entries_of}
 use Rattle.mt_front.specs.Answers.{IsCaused}
 use Rattle.mt_front.specs.Session.{Sent, Cut, counts_of, Added, IsSaid}
-use Rattle.mt_front.specs.Turns.{CameOut, Tries, room_for, outcome_of, tried_item, left_by, WritesReply, RepliedAs, SaysReply, SaysMade, BrokeOff, Answering, AnswersAs, AnswersOne, AnswersWhole, AnswersWholeAs, AnswersRequest, RefusesAs, FaultedAs, AnswersFault, OneMore, IsRefusal, StarvedAt, TurnAs, SessionTurn, turn_behind, turn_refused, refusal_bytes, LeavesNothing}
-use Rattle.mt_front.proofs.CameLaws.{same_self, told_self, bad_item, came_bad, caused_bad, left_nothing, IsUndone, tried_off, added_self}
+use Rattle.mt_front.specs.Turns.{CameOut, Tries, room_for, outcome_of, tried_item, answer_of, Leaves, WritesReply, RepliedAs, SaysReply, SaysMade, BrokeOff, Answering, AnswersAs, AnswersOne, AnswersWhole, AnswersWholeAs, AnswersRequest, RefusesAs, FaultedAs, AnswersFault, OneMore, IsRefusal, StarvedAt, TurnAs, SessionTurn, turn_behind, turn_refused, refusal_bytes}
+use Rattle.mt_front.proofs.CameLaws.{bad_item, came_bad, caused_bad, nothing_broke, IsUndone, tried_off, added_self}
 
 -- ---- bytes sent one after the other
 
@@ -55,9 +55,6 @@ cut_after o y x a b le p q =
     }
 
 -- ---- an answer whose reply was tried
-
-pub leaves_nothing : (w : WorldState) → LeavesNothing w w
-leaves_nothing w = record { same = same_self w; retired = refl; told = told_self w; entries = refl; still = refl }
 
 -- a reply that was made, or was not
 pub says_made : (o x : Output) (want : Reply) (made : Result Reply NoRoom) (r : Result (Unit {0}) ConnFault) → Makes want made → SaysMade o made r x → SaysReply o (bytes_of want) r x
@@ -80,21 +77,21 @@ module _ (c : ℕ) (w w' : WorldState) (o x : Output) where
   answered_or asks keep item (Err NoMemory) broken is kept came cause added rendered off reply = record { faults_out = reply.faults; answers = (broken, off, reply.said) }
 
   -- a request that was tried, whose bytes are the reply to what it came to
-  pub tried_said : (asks : Asked) (q : Request) (keep : Bool) (out : Outcome) (bytes : List ℕ) (r : Result (Unit {0}) ConnFault) → need_of asks ≡ Some (room_for q) → IsUndone out → Tries c w q (Ok out) w'
-      → ((marks : List Mark) → entries_of marks ≡ left_by q out → Renders asks (outcome_of out) marks (not keep) bytes) → SaysReply o bytes r x → AnswersOne c w o asks keep r w' x
+  pub tried_said : (asks : Asked) (q : Request) (keep : Bool) (out : Outcome) (bytes : List ℕ) (r : Result (Unit {0}) ConnFault) → need_of asks ≡ Some (room_for q) → IsUndone (answer_of out) → Tries c w q (Ok out) w'
+      → ((marks : List Mark) → Leaves q (answer_of out) (entries_of marks) → Renders asks (outcome_of out) marks (not keep) bytes) → SaysReply o bytes r x → AnswersOne c w o asks keep r w' x
   tried_said asks q keep out bytes r need undone tries shows reply =
       answered_or asks keep (tried_item asks out keep tries.0 bytes) r tries.0 refl refl (tries.1.came asks keep bytes need) (tries.1.caused asks keep bytes) tries.1.added
       (shows tries.0 tries.1.left) (tried_off c w w' q out tries.0 asks need undone tries.1) reply
 
   -- so for a reply that may have been made
-  pub tried_made : (asks : Asked) (q : Request) (keep : Bool) (out : Outcome) (made : Result Reply NoRoom) (r : Result (Unit {0}) ConnFault) → need_of asks ≡ Some (room_for q) → IsUndone out → Tries c w q (Ok out) w'
-      → IfOk made (λ reply. (marks : List Mark) → entries_of marks ≡ left_by q out → Renders asks (outcome_of out) marks (not keep) (bytes_of reply)) → SaysMade o made r x → AnswersOne c w o asks keep r w' x
+  pub tried_made : (asks : Asked) (q : Request) (keep : Bool) (out : Outcome) (made : Result Reply NoRoom) (r : Result (Unit {0}) ConnFault) → need_of asks ≡ Some (room_for q) → IsUndone (answer_of out) → Tries c w q (Ok out) w'
+      → IfOk made (λ reply. (marks : List Mark) → Leaves q (answer_of out) (entries_of marks) → Renders asks (outcome_of out) marks (not keep) (bytes_of reply)) → SaysMade o made r x → AnswersOne c w o asks keep r w' x
   tried_made asks q keep out (Ok reply) r need undone tries shows said = tried_said asks q keep out (bytes_of reply) r need undone tries shows said
   tried_made asks q keep out (Err none) r need undone tries shows said =
       subst (λ v. AnswersOne c w o asks keep v w' x) (sym said.0) (record { faults_out = subst (λ (z : Output). o.faults ≤ z.faults) (sym said.1) (let le : o.faults ≤ o.faults = omega arith in le); answers = (tries.0, tried_off c w w' q out tries.0 asks need undone tries.1, said.1) })
 
   pub tried_answered : (asks : Asked) (q : Request) (keep : Bool) (out : Outcome) (bytes : List ℕ) (r : Result (Unit {0}) ConnFault) → need_of asks ≡ Some (room_for q) → Tries c w q (Ok out) w'
-      → ((marks : List Mark) → entries_of marks ≡ left_by q out → Renders asks (outcome_of out) marks (not keep) bytes) → WritesReply o bytes r x → AnswersOne c w o asks keep r w' x
+      → ((marks : List Mark) → Leaves q (answer_of out) (entries_of marks) → Renders asks (outcome_of out) marks (not keep) bytes) → WritesReply o bytes r x → AnswersOne c w o asks keep r w' x
   tried_answered asks q keep out bytes r need tries shows reply =
       answered asks keep (tried_item asks out keep tries.0 bytes) r refl refl (tries.1.came asks keep bytes need) (tries.1.caused asks keep bytes) tries.1.added (shows tries.0 tries.1.left) reply
 
@@ -104,7 +101,7 @@ module _ (c : ℕ) (w w' : WorldState) (o x : Output) where
       answered_or asks keep (bad_item asks keep (bytes_of want)) r [] refl refl
       (subst (λ v. CameOut c w (bad_item asks keep (bytes_of want)) v) (sym same) (came_bad c w asks keep (bytes_of want) none))
       (subst (λ v. IsCaused (counts_of w) (bad_item asks keep (bytes_of want)) (counts_of v)) (sym same) (caused_bad (counts_of w) asks keep (bytes_of want)))
-      (subst (Added c w) (sym same) (added_self c w)) shows (left_nothing c w w' (subst (LeavesNothing w) (sym same) (leaves_nothing w))) reply
+      (subst (Added c w) (sym same) (added_self c w)) shows (subst (BrokeOff c w []) (sym same) (nothing_broke c w)) reply
 
   -- the answer to a request that asks for this
   pub whole_answered : (table : List ℕ) (v : Incoming) (asks : Asked) (turn : Turn) → RequestAsks table (request_of v) asks → turn ≡ turn_behind v.keep → AnswersOne c w o asks v.keep (Ok tt) w' x → AnswersRequest c table w o v (Ok turn) w' x
@@ -220,7 +217,7 @@ module _ (c : ℕ) (table kept : List ℕ) (s : Input) (o : Output) (w : WorldSt
         cut_after o y x b.bytes reply later b.said (subst (λ z. Cut y z x) (closed_bytes code close b.closes) a),
         refl,
       ))
-  closed_turn code close (Err NoMemory) closes is b a = ([], left_nothing c w w (leaves_nothing w), record { said = b.bytes; spoken = inr (inr (code, closes, b.refuses)); sent = subst (λ z. Sent o b.bytes z) (sym a) b.said })
+  closed_turn code close (Err NoMemory) closes is b a = ([], nothing_broke c w, record { said = b.bytes; spoken = inr (inr (code, closes, b.refuses)); sent = subst (λ z. Sent o b.bytes z) (sym a) b.said })
 
   abbrev pub packed_item : Bool → Item
   packed_item close = bad_item (asked.Refused bad.CompressedBody) (not close) (bytes_of (bad_reply bad.CompressedBody (not (not close))))
@@ -257,7 +254,7 @@ module _ (c : ℕ) (table kept : List ℕ) (s : Input) (o : Output) (w : WorldSt
   packed_turn close (Err WriteFault) p a = inl (not close, packed_more close (Err WriteFault) p (packed_answer close (Err WriteFault) a))
   packed_turn close (Err NoMemory) p a = (
     [],
-    left_nothing c w w (leaves_nothing w),
+    nothing_broke c w,
     record { said = continue_of p.head; spoken = said_of c table kept s o w kept' t y x w p.head p.body p.got; sent = subst (λ z. Sent o (continue_of p.head) z) (sym a) p.got.said },
   )
 
@@ -271,7 +268,7 @@ module _ (c : ℕ) (table kept : List ℕ) (s : Input) (o : Output) (w : WorldSt
   faulted_turn : (f : InFault) (r : Result Turn ConnFault) → ReadsRequest kept s o (Err f) kept' t y → FaultedAs y f r x → TurnAs c table kept s o w r kept' t x w
   faulted_turn fault.ReadFault r read a = subst (λ n. TurnAs c table kept s o w n kept' t x w) (sym a.0) (subst (λ z. http.BrokeIn kept s o t z) (sym a.1) read.read, refl)
   faulted_turn fault.WriteFault r read a = subst (λ n. TurnAs c table kept s o w n kept' t x w) (sym a.0) (inr (inl (subst (λ z. http.BrokeOut kept s o kept' t z) (sym a.1) read.read, refl)))
-  faulted_turn fault.NoMemory r read a = subst (λ n. TurnAs c table kept s o w n kept' t x w) (sym a.0) ([], left_nothing c w w (leaves_nothing w), subst (λ z. StarvedAt (ahead kept s) o z) (sym a.1) (starved_at read.read))
+  faulted_turn fault.NoMemory r read a = subst (λ n. TurnAs c table kept s o w n kept' t x w) (sym a.0) ([], nothing_broke c w, subst (λ z. StarvedAt (ahead kept s) o z) (sym a.1) (starved_at read.read))
   faulted_turn (fault.Refused status code close) r read a = refused_turn code close r read.read.1 a
 
 pub turn_faulted : (c : ℕ) (table kept : List ℕ) (s : Input) (o : Output) (w : WorldState) (kept' : List ℕ) (t : Input) (y x : Output) (f : InFault) (r : Result Turn ConnFault) → ReadsRequest kept s o (Err f) kept' t y → AnswersFault y f r x → SessionTurn c table kept s o w r kept' t x w

@@ -1,4 +1,4 @@
--- What a request asks for: operations, rows, or a refusal.
+-- What a request asks for: operations, rows, a page, or a refusal.
 use Rattle.std.specs.Prelude.{◌≡◌, ◌⊎◌, ℕ, Bool, true, false, List, Option, Some, None}
 use Rattle.httparse.specs.Grammar.{RequestHead}
 use Rattle.mt_http_in.specs.declared.fields.Field.{Field}
@@ -23,6 +23,7 @@ use Rattle.mt_front.specs.declared.asks.Asked.TheVariants.{Refused}
 use Rattle.mt_front.specs.Changes.{AsksChange}
 use Rattle.mt_front.specs.ChangeSets.{alone, AsksChanges}
 use Rattle.mt_front.specs.Reads.{AsksRow, AsksRows}
+use Rattle.mt_front.specs.PageReads.{AsksPage}
 
 -- ---- routes
 
@@ -40,6 +41,7 @@ abbrev pub AsksOn : List ℕ → Route → List QueryOption → List Field → L
 AsksOn table (route.Write write) options fields bytes asked = AsksAlone (AsksChange write fields bytes) asked
 AsksOn table (route.Row pk rk) options fields bytes asked = AsksRow pk rk options fields asked
 AsksOn table route.Rows options fields bytes asked = AsksRows options fields asked
+AsksOn table route.Page options fields bytes asked = AsksPage options fields asked
 AsksOn table route.Changes options fields bytes asked = AsksChanges table fields bytes asked
 
 -- the route's refusal refuses, or what the route asks for is asked; what is not refused has a route
@@ -71,7 +73,7 @@ pub record AsksSpelled (table : List ℕ) (q : Request) (asked : Asked) : Type 0
   pub spelled : Spelled
   pub is_method : IsMethod q.method method
   pub is_spelled : SpellsIt q.target spelled
-  pub asks : AsksBy table (route_refusal (is_atomic q.fields) table spelled method) (route_by (is_atomic q.fields) spelled.target method) spelled.options q.fields q.body asked
+  pub asks : AsksBy table (route_refusal table spelled method) (route_by (is_atomic q.fields) spelled.target method) spelled.options q.fields q.body asked
 
 -- what a request on the table of that name asks for
 abbrev pub RequestAsks : List ℕ → Request → Asked → Type 0

@@ -1,5 +1,5 @@
 -- The items of a connection: what each asks, how it came out, and the reply that shows what its entries in the history reply.
-use Rattle.std.specs.Prelude.{◌≡◌, ℕ, Bool, true, false, not, All, List, [], ◌∷◌, ◌++◌, length, filter, Option, Some, None}
+use Rattle.std.specs.Prelude.{◌≡◌, ℕ, Bool, true, false, not, All, List, [], ◌∷◌, ◌++◌, length, filter, Option, Some, None, Ok, Err}
 use Rattle.std.specs.List.{flat_map}
 use Rattle.std.specs.Option.{option_to_list}
 use Rattle.mt_model.specs.declared.tag.Tag.{Tag}
@@ -8,7 +8,7 @@ use Rattle.mt_chain.specs.declared.op.Op.{Op}
 use Rattle.mt_chain.specs.declared.op.Refusal.{Refusal}
 use Rattle.mt_chain.specs.Batch.{batch_weight}
 use Rattle.mt_filter.specs.declared.filter.Filter.{Filter}
-use Rattle.mt_history.specs.Weight.{need_of_query}
+use Rattle.mt_history.specs.Weight.{need_of_query, need_of_page}
 use Rattle.mt_history.specs.declared.entry.What.TheVariants as what
 use Rattle.mt_history.specs.declared.model.Reply.TheVariants as reply
 use Rattle.mt_http_out.specs.declared.reply.Reply.{Reply}
@@ -19,16 +19,23 @@ use Rattle.mt_front.specs.declared.asks.Asked.TheVariants as asked
 use Rattle.mt_front.specs.Writes.{Writing}
 use Rattle.mt_front.specs.declared.reads.Read.{Read}
 use Rattle.mt_front.specs.Reads.{ShowsRows}
+use Rattle.mt_front.specs.declared.pages.PageRead.{PageRead}
+use Rattle.mt_front.specs.PageReplies.{ShowsPage}
+use Rattle.mt_front.specs.PageUnits.{LeavesPage}
 use Rattle.mt_front.specs.Refusals.{bad_reply, part_reply, refusal_reply, fault_reply, full_reply}
+use Rattle.mt_scan.specs.declared.unit.Page.{Page}
+use Rattle.mt_world.specs.declared.actor.Answer.TheVariants as answer
+use Rattle.mt_world.specs.declared.actor.TurnFault.TheVariants.{StoreFault, HistoryFull}
 use Rattle.mt_world.specs.Moves.{NewEntry, fault_entry}
 use Rattle.mt_world.specs.WholeCalls.{Mark}
 
--- how an item came out: refused before anything was tried; done, with the tags of its rows; refused by the table; with the rows that were found; a store failed; the history is full
+-- how an item came out: refused before anything was tried; done, with the tags of its rows; refused by the table; with the rows that were found; with a page; a store failed; the history is full
 pub data ItemOutcome : Type 0 where
   Bad : ItemOutcome
   Done : List Tag → ItemOutcome
   Refused : Refusal → ItemOutcome
   Found : List Entity → ItemOutcome
+  Paged : Page → ItemOutcome
   Fault : ItemOutcome
   Full : ItemOutcome
 
@@ -46,6 +53,7 @@ is_full Bad = false
 is_full (Done tags) = false
 is_full (Refused refusal) = false
 is_full (Found rows) = false
+is_full (Paged page) = false
 is_full Fault = false
 is_full Full = true
 
@@ -55,6 +63,7 @@ is_fault Bad = false
 is_fault (Done tags) = false
 is_fault (Refused refusal) = false
 is_fault (Found rows) = false
+is_fault (Paged page) = false
 is_fault Fault = true
 is_fault Full = false
 
@@ -66,6 +75,7 @@ faults_of items = length (filter (λ i. is_fault i.outcome) items)
 abbrev pub need_of : Asked → Option ℕ
 need_of (asked.Write w) = Some (batch_weight w.ops)
 need_of (asked.Read q) = Some (need_of_query q.pk q.filter)
+need_of (asked.Page q) = Some (need_of_page q.filter)
 need_of (asked.Refused r) = None
 need_of (asked.RefusedPart r) = None
 
@@ -97,6 +107,7 @@ RendersWrite w Bad marks close bytes = ⊥
 RendersWrite w (Done tags) marks close bytes = (entries_of marks ≡ applied_entry w.ops tags ∷ []) × IsDoneReply w tags close bytes
 RendersWrite w (Refused refusal) marks close bytes = (entries_of marks ≡ refused_entry w.ops refusal ∷ []) × (bytes ≡ bytes_of (refusal_reply w.change_set refusal close))
 RendersWrite w (Found rows) marks close bytes = ⊥
+RendersWrite w (Paged page) marks close bytes = ⊥
 RendersWrite w Fault marks close bytes = (entries_of marks ≡ fault_entry ∷ []) × (bytes ≡ bytes_of (fault_reply close))
 RendersWrite w Full marks close bytes = (entries_of marks ≡ []) × (bytes ≡ bytes_of (full_reply close))
 
@@ -110,8 +121,23 @@ RendersRead q Bad marks close bytes = ⊥
 RendersRead q (Done tags) marks close bytes = ⊥
 RendersRead q (Refused refusal) marks close bytes = ⊥
 RendersRead q (Found rows) marks close bytes = (entries_of marks ≡ found_entry q.pk q.filter rows ∷ []) × IsFoundReply q rows close bytes
+RendersRead q (Paged page) marks close bytes = ⊥
 RendersRead q Fault marks close bytes = (entries_of marks ≡ fault_entry ∷ []) × (bytes ≡ bytes_of (fault_reply close))
 RendersRead q Full marks close bytes = (entries_of marks ≡ []) × (bytes ≡ bytes_of (full_reply close))
+
+-- the bytes are the reply that shows a page
+abbrev pub IsPageReply : PageRead → Page → Bool → List ℕ → Type 0
+IsPageReply q page close bytes = (r : Reply) × ShowsPage q.show page close r × (bytes ≡ bytes_of r)
+
+-- a page came out so, with these marks; and the bytes are the reply, which shows the rows that the entries of its units reply. Where a store failed or the history is full, the units before it have their entries
+abbrev pub RendersPage : PageRead → ItemOutcome → List Mark → Bool → List ℕ → Type 0
+RendersPage q Bad marks close bytes = ⊥
+RendersPage q (Done tags) marks close bytes = ⊥
+RendersPage q (Refused refusal) marks close bytes = ⊥
+RendersPage q (Found rows) marks close bytes = ⊥
+RendersPage q (Paged page) marks close bytes = LeavesPage q.filter q.top q.token (Ok (answer.Page page)) (entries_of marks) × IsPageReply q page close bytes
+RendersPage q Fault marks close bytes = LeavesPage q.filter q.top q.token (Err StoreFault) (entries_of marks) × (bytes ≡ bytes_of (fault_reply close))
+RendersPage q Full marks close bytes = LeavesPage q.filter q.top q.token (Err HistoryFull) (entries_of marks) × (bytes ≡ bytes_of (full_reply close))
 
 -- what is refused took no turn, and the bytes are this reply
 abbrev pub RendersBad : Reply → ItemOutcome → List Mark → List ℕ → Type 0
@@ -119,6 +145,7 @@ RendersBad r Bad marks bytes = (marks ≡ []) × (bytes ≡ bytes_of r)
 RendersBad r (Done tags) marks bytes = ⊥
 RendersBad r (Refused refusal) marks bytes = ⊥
 RendersBad r (Found rows) marks bytes = ⊥
+RendersBad r (Paged page) marks bytes = ⊥
 RendersBad r Fault marks bytes = ⊥
 RendersBad r Full marks bytes = ⊥
 
@@ -126,6 +153,7 @@ RendersBad r Full marks bytes = ⊥
 abbrev pub Renders : Asked → ItemOutcome → List Mark → Bool → List ℕ → Type 0
 Renders (asked.Write w) outcome marks close bytes = RendersWrite w outcome marks close bytes
 Renders (asked.Read q) outcome marks close bytes = RendersRead q outcome marks close bytes
+Renders (asked.Page q) outcome marks close bytes = RendersPage q outcome marks close bytes
 Renders (asked.Refused r) outcome marks close bytes = RendersBad (bad_reply r close) outcome marks bytes
 Renders (asked.RefusedPart r) outcome marks close bytes = RendersBad (part_reply r close) outcome marks bytes
 

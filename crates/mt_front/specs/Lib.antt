@@ -7,6 +7,9 @@ pub mod Refused
 pub mod Changes
 pub mod ChangeSets
 pub mod Reads
+pub mod PageReads
+pub mod PageReplies
+pub mod PageUnits
 pub mod Asks
 pub mod Items
 pub mod Answers

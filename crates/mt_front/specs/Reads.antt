@@ -1,6 +1,7 @@
 -- Rows of one partition that are asked for, and the replies that show them.
-use Rattle.std.specs.Prelude.{◌≡◌, ◌⊎◌, ℕ, Bool, true, false, List, [], ◌∷◌, ◌++◌, codes, Option, Some, None, option_map, Ok}
+use Rattle.std.specs.Prelude.{◌≡◌, ◌⊎◌, ℕ, Bool, true, false, List, [], ◌∷◌, ◌++◌, codes, Option, Some, None, option_map, Result, Ok}
 use Rattle.std.specs.List.{flat_map}
+use Rattle.mt_model.specs.declared.text.NoMemory.{NoMemory}
 use Rattle.mt_model.specs.declared.tag.Tag.{Tag}
 use Rattle.mt_model.specs.declared.entity.Entity.{Entity}
 use Rattle.mt_model.specs.declared.value.Value.TheVariants.{Str}
@@ -16,6 +17,7 @@ use Rattle.mt_front.specs.declared.reads.Shape.{Shape}
 use Rattle.mt_front.specs.declared.reads.Shape.TheVariants.{One, All}
 use Rattle.mt_front.specs.declared.reads.Read.{Read}
 use Rattle.mt_options.specs.declared.shows.Show.{Show}
+use Rattle.mt_options.specs.declared.tokens.TokenRead.{TokenRead}
 use Rattle.mt_options.specs.declared.tokens.TokenRead.TheVariants.{Unreadable}
 use Rattle.mt_options.specs.Values.{value_of}
 use Rattle.mt_options.specs.Shows.{shown_level, shown_names}
@@ -65,9 +67,13 @@ abbrev pub with_commas : List (List ℕ) → List ℕ
 with_commas [] = []
 with_commas (t ∷ ts) = t ++ flat_map (λ u. codes "," ++ u) ts
 
+-- the list of the rows whose texts these are
+abbrev pub list_body : List (List ℕ) → List ℕ
+list_body texts = codes "{\"value\":[" ++ with_commas texts ++ codes "]}"
+
 -- 200 with the rows, whose texts these are
 abbrev pub list_reply : List (List ℕ) → Bool → Reply
-list_reply texts close = reply_with 200 (json_field ∷ []) (codes "{\"value\":[" ++ with_commas texts ++ codes "]}") close
+list_reply texts close = reply_with 200 (json_field ∷ []) (list_body texts) close
 
 -- the reply shows all rows, in their order
 abbrev pub ShowsAll : Show → List Entity → Bool → Reply → Type 0
@@ -107,10 +113,13 @@ abbrev pub AsksRow : List ℕ → List ℕ → List QueryOption → List Field �
 AsksRow pk rk options fields a =
     KeyedBy asked.Refused (key_fault pk rk) ((q : Read) × IsRowRead (key_at pk rk) options fields q × (a ≡ asked.Read q)) a
 
+-- the options of a continuation token say this
+abbrev pub TokenReads : List QueryOption → Result TokenRead NoMemory → Type 0
+TokenReads options said = ReadsToken (value_of (codes "NextPartitionKey") options) (value_of (codes "NextRowKey") options) said
+
 -- an atomic query has no $top, and a continuation token must be one
 abbrev pub IsBad : List QueryOption → Type 0
-IsBad options =
-    (has_option (codes "$top") options ≡ true) ⊎ ReadsToken (value_of (codes "NextPartitionKey") options) (value_of (codes "NextRowKey") options) (Ok Unreadable)
+IsBad options = (has_option (codes "$top") options ≡ true) ⊎ TokenReads options (Ok Unreadable)
 
 abbrev pub BadAs : List QueryOption → Bool → Type 0
 BadAs options true = IsBad options
@@ -128,12 +137,16 @@ abbrev pub AsksPartition : Option (List ℕ) → Filter → List QueryOption →
 AsksPartition None filter options fields a = a ≡ asked.Refused AtomicNeedsPartition
 AsksPartition (Some pk) filter options fields a = (q : Read) × IsRowsRead pk filter options fields q × (a ≡ asked.Read q)
 
+-- the text is a filter and then this is asked for with it, or it cannot be read, and its place is told
+abbrev pub FilteredBy : List ℕ → (Filter → Type 0) → Asked → Type 0
+FilteredBy text then a =
+    ((filter : Filter) × IsFilter text (tree_of filter) × then filter)
+    ⊎ ((at : ℕ) × (kind : FilterKind) × IsBadFilter text at kind × (a ≡ asked.Refused (InvalidFilter at)))
+
 -- what a query asks for with that text of a filter, or with none
 abbrev pub AsksFiltered : Option (List ℕ) → List QueryOption → List Field → Asked → Type 0
 AsksFiltered None options fields a = a ≡ asked.Refused AtomicNeedsPartition
-AsksFiltered (Some text) options fields a =
-    ((filter : Filter) × IsFilter text (tree_of filter) × AsksPartition (atomic_partition (tree_of filter)) filter options fields a)
-    ⊎ ((at : ℕ) × (kind : FilterKind) × IsBadFilter text at kind × (a ≡ asked.Refused (InvalidFilter at)))
+AsksFiltered (Some text) options fields a = FilteredBy text (λ filter. AsksPartition (atomic_partition (tree_of filter)) filter options fields a) a
 
 -- what an atomic GET on the table asks for
 abbrev pub AsksRows : List QueryOption → List Field → Asked → Type 0

@@ -29,10 +29,12 @@ write_by (target.Table name keys.Absent) (Some Post) = Some row.Insert
 write_by (target.Table name (keys.Entity pk rk)) (Some m) = option_map (λ action. row.Entity action pk rk) (action_of m)
 write_by t m = None
 
--- the read that a target of GET names; a table is read at one time, where that is asked for
+-- the read that a target of GET names; a table is read at one time where that is asked for, and else by pages
 abbrev pub read_by : Bool → Target → Option Route
 read_by true (target.Table name keys.Absent) = Some route.Rows
 read_by true (target.Table name keys.Empty) = Some route.Rows
+read_by false (target.Table name keys.Absent) = Some route.Page
+read_by false (target.Table name keys.Empty) = Some route.Page
 read_by atomic (target.Table name (keys.Entity pk rk)) = Some (route.Row pk rk)
 read_by atomic t = None
 
@@ -42,8 +44,9 @@ route_by atomic t (Some Get) = read_by atomic t
 route_by atomic (target.Service service.Batch) (Some Post) = Some route.Changes
 route_by atomic t m = option_map route.Write (write_by t m)
 
-abbrev pub is_built : Bool → Target → Option Method → Bool
-is_built atomic t m = is_some (route_by atomic t m)
+-- it has a route; whether a table is read at one time or by pages is the same here
+abbrev pub is_built : Target → Option Method → Bool
+is_built t m = is_some (route_by false t m)
 
 -- ---- refusals
 
@@ -86,10 +89,10 @@ abbrev pub has_unknown : Target → Option Method → List QueryOption → Bool
 has_unknown t m options = list_any (λ o. is_system o.name && not (is_known t m o.name)) options
 
 -- the list of tables, the options of other services, a system option that the method's row does not name, or a method of the target's whose machine is not built
-abbrev pub is_unsupported : Bool → Spelled → Option Method → Bool
-is_unsupported atomic s m =
+abbrev pub is_unsupported : Spelled → Option Method → Bool
+is_unsupported s m =
     is_list_of_tables s.target || has_option (codes "comp") s.options || has_option (codes "restype") s.options || has_unknown s.target m s.options
-    || (allows (resource_of s.target) m && not (is_built atomic s.target m))
+    || (allows (resource_of s.target) m && not (is_built s.target m))
 
 -- the target is beside the tables
 abbrev pub is_service : Target → Bool
@@ -103,7 +106,7 @@ is_get m = false
 
 -- in a change set nothing is read, and nothing is beside the tables
 abbrev pub is_no_change : Spelled → Option Method → Bool
-is_no_change s m = is_get m || is_service s.target || is_unsupported false s m
+is_no_change s m = is_get m || is_service s.target || is_unsupported s m
 
 -- the target names a table, and not this one
 abbrev pub names_another : List ℕ → Target → Bool
@@ -121,8 +124,8 @@ refusal_by unsupported table s m = first_of (
     ∷ [])
 
 -- of a request that stands alone
-abbrev pub route_refusal : Bool → List ℕ → Spelled → Option Method → Option BadRequest
-route_refusal atomic table s m = refusal_by (is_unsupported atomic s m) table s m
+abbrev pub route_refusal : List ℕ → Spelled → Option Method → Option BadRequest
+route_refusal table s m = refusal_by (is_unsupported s m) table s m
 
 -- of a request in a change set
 abbrev pub change_refusal : List ℕ → Spelled → Option Method → Option BadRequest

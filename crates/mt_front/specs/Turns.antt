@@ -4,7 +4,7 @@ use Rattle.std.specs.Option.{option_to_list}
 use Rattle.mt_io.specs.Ends.{Input, Output}
 use Rattle.mt_model.specs.declared.text.NoMemory.{NoMemory as NoRoom}
 use Rattle.mt_chain.specs.Batch.{batch_weight}
-use Rattle.mt_history.specs.Weight.{need_of_query}
+use Rattle.mt_history.specs.Weight.{need_of_query, need_of_page}
 use Rattle.mt_world.specs.declared.actor.Request.{Request}
 use Rattle.mt_world.specs.declared.actor.Request.TheVariants as request
 use Rattle.mt_world.specs.declared.actor.Answer.{Answer}
@@ -39,19 +39,12 @@ use Rattle.mt_front.specs.Refusals.{head_refusal, bad_reply}
 use Rattle.mt_front.specs.Asks.{RequestAsks, WholeAsks, request_by, request_of}
 use Rattle.mt_world.specs.Moves.{NewEntry}
 use Rattle.mt_world.specs.WholeCalls.{Mark, batch_entry, query_entry}
-use Rattle.mt_front.specs.Items.{ItemOutcome, Done, Refused, Found, Fault, Full, Item, IsRendered, AllKeep, entries_of, need_of}
+use Rattle.mt_front.specs.PageUnits.{LeavesPage}
+use Rattle.mt_front.specs.Items.{ItemOutcome, Done, Refused, Found, Paged, Fault, Full, Item, IsRendered, AllKeep, entries_of, need_of}
 use Rattle.mt_front.specs.Answers.{FitsFrom, BreaksOff, IsCaused, AtMost, past_end}
 use Rattle.mt_front.specs.Session.{Sent, Cut, past_of, counts_of, ToldBefore, Added, IsSaid, Course, IsCourse, Talk, MayBreak, SessionAs}
 
 -- ---- over the world
-
--- nothing was added to the history, and no count of faults rose
-pub record LeavesNothing (w w' : WorldState) : Type 0 where
-  pub same : IsSameWorld w w'
-  pub retired : w'.retired ≡ w.retired
-  pub told : ToldBefore w w'
-  pub entries : w'.history.entries ≡ w.history.entries
-  pub still : counts_of w' ≡ counts_of w
 
 -- an item broke off for want of memory in turns of caller c, with these marks
 pub record BrokeOff (c : ℕ) (w : WorldState) (broken : List Mark) (w' : WorldState) : Type 0 where
@@ -72,17 +65,20 @@ pub record CameOut (c : ℕ) (w : WorldState) (i : Item) (w' : WorldState) : Typ
 abbrev pub room_for : Request → ℕ
 room_for (request.Batch ops) = batch_weight ops
 room_for (request.Query pk filter) = need_of_query pk filter
+room_for (request.Page filter top token) = need_of_page filter
 
--- the entry that a request leaves which was answered so, or broke off so
-abbrev pub entry_by : Request → Result Answer TurnFault → Option NewEntry
-entry_by (request.Batch ops) r = batch_entry ops r
-entry_by (request.Query pk filter) r = query_entry pk filter r
+-- the entries that a request leaves which was answered so, or broke off so
+abbrev pub Leaves : Request → Result Answer TurnFault → List NewEntry → Type 0
+Leaves (request.Batch ops) r es = es ≡ option_to_list (batch_entry ops r)
+Leaves (request.Query pk filter) r es = es ≡ option_to_list (query_entry pk filter r)
+Leaves (request.Page filter top token) r es = LeavesPage filter top token r es
 
 -- the answer, or the fault, that came to this
 abbrev pub answer_of : Outcome → Result Answer TurnFault
 answer_of (outcome.Done tags) = Ok (answer.Written tags)
 answer_of (outcome.Refused refusal) = Ok (answer.Refused refusal)
 answer_of (outcome.Found rows) = Ok (answer.Rows rows)
+answer_of (outcome.Paged page) = Ok (answer.Page page)
 answer_of outcome.Fault = Err turn_fault.StoreFault
 answer_of outcome.Full = Err turn_fault.HistoryFull
 
@@ -91,25 +87,30 @@ abbrev pub outcome_of : Outcome → ItemOutcome
 outcome_of (outcome.Done tags) = Done tags
 outcome_of (outcome.Refused refusal) = Refused refusal
 outcome_of (outcome.Found rows) = Found rows
+outcome_of (outcome.Paged page) = Paged page
 outcome_of outcome.Fault = Fault
 outcome_of outcome.Full = Full
 
--- a request can come to this: operations that are done have a tag each, and a query finds rows
+-- a request can come to this: operations that are done have a tag each, a query finds rows, and a page is one
 abbrev pub IsOwn : Request → Outcome → Type 0
 IsOwn (request.Batch ops) (outcome.Done tags) = length tags ≡ length ops
 IsOwn (request.Batch ops) (outcome.Refused refusal) = Unit {0}
 IsOwn (request.Batch ops) (outcome.Found rows) = ⊥
+IsOwn (request.Batch ops) (outcome.Paged page) = ⊥
 IsOwn (request.Batch ops) outcome.Fault = Unit {0}
 IsOwn (request.Batch ops) outcome.Full = Unit {0}
 IsOwn (request.Query pk filter) (outcome.Done tags) = ⊥
 IsOwn (request.Query pk filter) (outcome.Refused refusal) = ⊥
 IsOwn (request.Query pk filter) (outcome.Found rows) = Unit {0}
+IsOwn (request.Query pk filter) (outcome.Paged page) = ⊥
 IsOwn (request.Query pk filter) outcome.Fault = Unit {0}
 IsOwn (request.Query pk filter) outcome.Full = Unit {0}
-
--- the entries that a request leaves which came to this
-abbrev pub left_by : Request → Outcome → List NewEntry
-left_by q o = option_to_list (entry_by q (answer_of o))
+IsOwn (request.Page filter top token) (outcome.Done tags) = ⊥
+IsOwn (request.Page filter top token) (outcome.Refused refusal) = ⊥
+IsOwn (request.Page filter top token) (outcome.Found rows) = ⊥
+IsOwn (request.Page filter top token) (outcome.Paged page) = Unit {0}
+IsOwn (request.Page filter top token) outcome.Fault = Unit {0}
+IsOwn (request.Page filter top token) outcome.Full = Unit {0}
 
 -- the item that asks for a request which came to this
 abbrev pub tried_item : Asked → Outcome → Bool → List Mark → List ℕ → Item
@@ -118,15 +119,15 @@ tried_item asks o keep marks reply = record { asks = asks; keep = keep; outcome 
 -- a request was tried with no other caller between, and these are the marks of its turns, whatever asks for it and its reply shows
 pub record Tried (c : ℕ) (w : WorldState) (q : Request) (o : Outcome) (marks : List Mark) (w' : WorldState) : Type 0 where
   pub own : IsOwn q o
-  pub left : entries_of marks ≡ left_by q o
+  pub left : Leaves q (answer_of o) (entries_of marks)
   pub came : (asks : Asked) (keep : Bool) (reply : List ℕ) → need_of asks ≡ Some (room_for q) → CameOut c w (tried_item asks o keep marks reply) w'
   pub caused : (asks : Asked) (keep : Bool) (reply : List ℕ) → IsCaused (counts_of w) (tried_item asks o keep marks reply) (counts_of w')
   pub added : Added c w w'
 
--- for want of memory it has no entry
+-- for want of memory it broke off
 abbrev pub Tries : ℕ → WorldState → Request → Result Outcome NoRoom → WorldState → Type 0
 Tries c w q (Ok o) w' = (marks : List Mark) × Tried c w q o marks w'
-Tries c w q (Err none) w' = LeavesNothing w w'
+Tries c w q (Err none) w' = (broken : List Mark) × BrokeOff c w broken w'
 
 -- ---- replies
 

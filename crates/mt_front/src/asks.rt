@@ -9,6 +9,7 @@ use crate::change_sets::asked_of_changes;
 use crate::changes::{Change, change_by};
 use crate::fields::is_atomic;
 use crate::methods::{Method, read_method};
+use crate::pages::{PageRead, asked_of_page};
 use crate::reads::{Read, asked_of_row, asked_of_rows};
 use crate::refusals::{BadPart, BadRequest};
 use crate::routes::{Route, route_by, route_refusal};
@@ -26,6 +27,9 @@ pub enum Asked {
 
     /// Rows of one partition at one time.
     Read(Read),
+
+    /// A page of the table.
+    Page(PageRead),
 
     /// Nothing that can be tried.
     Refused(BadRequest),
@@ -63,6 +67,7 @@ fn asked_on(
         }
         Route::Row { pk, rk } => asked_of_row(alloc, pk.as_str(), rk.as_str(), options, fields),
         Route::Rows => asked_of_rows(alloc, options, fields),
+        Route::Page => asked_of_page(alloc, options, fields),
         Route::Changes => asked_of_changes(alloc, table, fields, bytes),
     }
 }
@@ -76,25 +81,24 @@ fn asked_at(
     fields: &[Field],
     bytes: &[u8],
 ) -> Result<Asked, NoMemory>
-    ensures { IfOk result (AsksBy table.now (route_refusal (is_atomic fields.now) table.now spelled method) (route_by (is_atomic fields.now) spelled.target method) spelled.options fields.now bytes.now) }
+    ensures { IfOk result (AsksBy table.now (route_refusal table.now spelled method) (route_by (is_atomic fields.now) spelled.target method) spelled.options fields.now bytes.now) }
 {
-    let atomic = is_atomic(fields);
-    if let Some(refusal) = route_refusal(alloc, atomic, table, &spelled, method)? {
+    if let Some(refusal) = route_refusal(alloc, table, &spelled, method)? {
         return Ok(Asked::Refused(refusal));
     }
     let Spelled { target, options } = spelled;
-    match route_by(atomic, target, method) {
+    match route_by(is_atomic(fields), target, method) {
         Some(at) => asked_on(alloc, table, at, options.as_slice(), fields, bytes),
         None => unreachable!(),
     }
 }
 
-/// What a request on the table asks for: operations, rows, or the first refusal. First comes the
+/// What a request on the table asks for: operations, rows, a page, or the first refusal. First comes the
 /// target: one that spells nothing is refused, then what is not supported, another table's name, a
 /// method that the resource does not have, and an option's name that stands twice. Then come the
 /// refusals of what the route asks for: of one operation as `change_by` has them, of a change set as
-/// `asked_of_changes`, of a read as `asked_of_row` and `asked_of_rows`. The one error is want of
-/// memory.
+/// `asked_of_changes`, of a read as `asked_of_row`, `asked_of_rows` and `asked_of_page`. The one error
+/// is want of memory.
 pub fn asked_by(alloc: Global, table: &Text, request: Incoming) -> Result<Asked, NoMemory>
     ensures { IfOk result (RequestAsks table.now (request_of request)) }
 {

@@ -1,12 +1,16 @@
 //! One connection.
 ghost use Rattle.std.specs.Prelude.{◌≡◌, ◌≤◌, ◌<◌, ◌+◌, ◌^◌, IfOk};
 ghost use Rattle.mt_front.specs.declared.asks.Asked.TheVariants as asked;
+ghost use Rattle.mt_front.specs.PageReads.{MayPage, MayTry};
 ghost use Rattle.mt_front.specs.Session.{Serves};
+ghost use Rattle.mt_world.specs.Moves.{MayRequest};
 ghost use Rattle.mt_http_out.specs.Rendering.{bytes_of, IsReply};
 ghost use Rattle.mt_front.specs.Refusals.{bad_reply, fault_reply, full_reply};
 ghost use Rattle.mt_front.specs.Turns.{Tries, WritesReply, SaysReply, SaysMade, Converses, AnswersOne, AnswersRequest, AnswersFault, RefusesAs, turn_behind, turn_refused, served_of, SessionTurn};
 
 use crate::asks::{Asked, asked_by};
+use crate::page_replies::page_reply;
+use crate::pages::PageRead;
 use crate::reads::{Read, rows_reply};
 use crate::refusals::{
     BadRequest, bad_part, bad_request, head_refusal, history_full, no_memory, refusal_reply,
@@ -18,6 +22,7 @@ use mt_http_in::{Code, InFault, Incoming, Reader, read_request};
 use mt_http_out::{Reply, render};
 use mt_io::{IoFault, Sink, Source, send};
 use mt_model::{Entities, NoMemory, Text};
+use mt_scan::Page;
 use mt_world::{Answer, Request, TurnFault, World};
 use std::alloc::Global;
 
@@ -66,6 +71,9 @@ enum Outcome {
 
     /// These rows were found.
     Found(Entities),
+
+    /// This page was read.
+    Paged(Page),
 
     /// A store failed.
     Fault,
@@ -160,6 +168,7 @@ fn try_request<K: Keeper>(
     world: &mut World<K>,
     request: Request,
 ) -> Result<Outcome, NoMemory>
+    requires { MayRequest request }
     ensures { Tries 0 world.old request result world.new }
 {
     let call = world.call_of(alloc, request)?;
@@ -167,6 +176,11 @@ fn try_request<K: Keeper>(
         Ok(Answer::Written(tags)) => Ok(Outcome::Done(tags)),
         Ok(Answer::Refused(refusal)) => Ok(Outcome::Refused(refusal)),
         Ok(Answer::Rows(rows)) => Ok(Outcome::Found(rows)),
+        Ok(Answer::Page(page)) => Ok(Outcome::Paged(page)),
+        Ok(Answer::Moved) => unreachable!(),
+        Ok(Answer::Cleaned) => unreachable!(),
+        Ok(Answer::NotSealed) => unreachable!(),
+        Ok(Answer::NotMigrated { .. }) => unreachable!(),
         Err(TurnFault::StoreFault) => Ok(Outcome::Fault),
         Err(TurnFault::HistoryFull) => Ok(Outcome::Full),
         Err(TurnFault::NoMemory) => Err(NoMemory),
@@ -196,6 +210,7 @@ fn write_rows<K: Keeper, T: Sink>(
             send_reply(out, sink, refusal_reply(alloc, change_set, refusal, close))
         }
         Ok(Outcome::Found(_)) => unreachable!(),
+        Ok(Outcome::Paged(_)) => unreachable!(),
         Ok(Outcome::Fault) => send_fault(alloc, out, sink, close),
         Ok(Outcome::Full) => send_full(alloc, out, sink, close),
         Err(NoMemory) => Err(ConnFault::NoMemory),
@@ -230,6 +245,37 @@ fn read_rows<K: Keeper, T: Sink>(
                 rows_reply(alloc, shape, &show, rows.as_slice(), close),
             )
         }
+        Ok(Outcome::Paged(_)) => unreachable!(),
+        Ok(Outcome::Fault) => send_fault(alloc, out, sink, close),
+        Ok(Outcome::Full) => send_full(alloc, out, sink, close),
+        Err(NoMemory) => Err(ConnFault::NoMemory),
+    }
+}
+
+/// Reads a page and writes the reply that shows it.
+fn read_page<K: Keeper, T: Sink>(
+    alloc: Global,
+    world: &mut World<K>,
+    out: &mut Vec<u8>,
+    sink: &mut T,
+    read: PageRead,
+    keep: bool,
+) -> Result<(), ConnFault>
+    requires { MayPage read }
+    ensures { AnswersOne 0 world.old (T.output sink.old) (asked.Page read) keep result world.new (T.output sink.new) }
+{
+    let close = !keep;
+    let PageRead {
+        filter,
+        top,
+        token,
+        show,
+    } = read;
+    match try_request(alloc, world, Request::Page { filter, top, token }) {
+        Ok(Outcome::Done(_)) => unreachable!(),
+        Ok(Outcome::Refused(_)) => unreachable!(),
+        Ok(Outcome::Found(_)) => unreachable!(),
+        Ok(Outcome::Paged(page)) => send_reply(out, sink, page_reply(alloc, &show, page, close)),
         Ok(Outcome::Fault) => send_fault(alloc, out, sink, close),
         Ok(Outcome::Full) => send_full(alloc, out, sink, close),
         Err(NoMemory) => Err(ConnFault::NoMemory),
@@ -245,11 +291,13 @@ fn answer<K: Keeper, T: Sink>(
     asks: Asked,
     keep: bool,
 ) -> Result<(), ConnFault>
+    requires { MayTry asks }
     ensures { AnswersOne 0 world.old (T.output sink.old) asks keep result world.new (T.output sink.new) }
 {
     match asks {
         Asked::Write(writes) => write_rows(alloc, world, out, sink, writes, keep),
         Asked::Read(read) => read_rows(alloc, world, out, sink, read, keep),
+        Asked::Page(read) => read_page(alloc, world, out, sink, read, keep),
         Asked::Refused(refusal) => send_refusal(alloc, out, sink, refusal, !keep),
         Asked::RefusedPart(bad) => send_reply(out, sink, bad_part(alloc, bad, !keep)),
     }

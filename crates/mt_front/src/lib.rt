@@ -7,6 +7,8 @@ mod changes;
 mod connection;
 mod fields;
 mod methods;
+mod page_replies;
+mod pages;
 mod reads;
 mod refusals;
 mod routes;
@@ -15,6 +17,7 @@ mod writes;
 pub use asks::{Asked, asked_by};
 pub use connection::{ConnFault, End, Served, session};
 pub use methods::Resource;
+pub use pages::PageRead;
 pub use reads::{Read, Shape};
 pub use refusals::{
     BadPart, BadRequest, bad_part, bad_request, cause_reply, head_refusal, history_full, no_memory,

@@ -9,7 +9,7 @@ ghost use Rattle.mt_mime.specs.Replies.{tag_field};
 ghost use Rattle.mt_match.specs.Partition.{atomic_partition};
 ghost use Rattle.mt_front.specs.declared.asks.Asked.TheVariants as asked;
 ghost use Rattle.mt_front.specs.Refused.{IsRefused};
-ghost use Rattle.mt_front.specs.Reads.{IsText, AreTexts, ShowsFirst, ShowsAll, ShowsRows, with_commas, key_tree, IsKeyFilter, IsShown, IsRowRead, AsksRow, BadAs, AsksPartition, AsksFiltered, AsksRows};
+ghost use Rattle.mt_front.specs.Reads.{IsText, AreTexts, ShowsFirst, ShowsAll, ShowsRows, with_commas, list_body, key_tree, IsKeyFilter, IsShown, IsRowRead, AsksRow, TokenReads, BadAs, AsksPartition, AsksFiltered, AsksRows};
 
 use crate::asks::Asked;
 use crate::refusals::{BadRequest, cause_reply, field, key_refusal, typed_fields};
@@ -63,8 +63,12 @@ fn key_filter(alloc: Global, key: &Key) -> Result<Filter, NoMemory>
     Ok(Filter::And(Box::new(alloc, partition)?, Box::new(alloc, row)?))
 }
 
-/// What the options and the fields of a read say of what is shown.
-fn show_by(alloc: Global, options: &[QueryOption], fields: &[HeadField]) -> Result<Show, NoMemory>
+/// What the options and the fields of a read say of what is shown. The one error is want of memory.
+pub(crate) fn show_by(
+    alloc: Global,
+    options: &[QueryOption],
+    fields: &[HeadField],
+) -> Result<Show, NoMemory>
     ensures { IfOk result (IsShown options.now fields.now) }
 {
     read_show(alloc, options, first_value(fields, b"accept"))
@@ -116,6 +120,15 @@ pub fn asked_of_row(
     }
 }
 
+/// What the options of a continuation token say. The one error is want of memory.
+pub(crate) fn token_in(alloc: Global, options: &[QueryOption]) -> Result<TokenRead, NoMemory>
+    ensures { TokenReads options.now result }
+{
+    let partition = value_of(options, b"NextPartitionKey");
+    let row = value_of(options, b"NextRowKey");
+    read_token(alloc, partition, row)
+}
+
 /// Whether an option is there that an atomic query cannot have, or a continuation token that cannot be
 /// read.
 fn has_bad_option(alloc: Global, options: &[QueryOption]) -> Result<bool, NoMemory>
@@ -124,9 +137,7 @@ fn has_bad_option(alloc: Global, options: &[QueryOption]) -> Result<bool, NoMemo
     if has_option(options, "$top") {
         return Ok(true);
     }
-    let partition = value_of(options, b"NextPartitionKey");
-    let row = value_of(options, b"NextRowKey");
-    match read_token(alloc, partition, row)? {
+    match token_in(alloc, options)? {
         TokenRead::Unreadable => Ok(true),
         TokenRead::Absent | TokenRead::Is(_) => Ok(false),
     }
@@ -264,19 +275,26 @@ fn add_rows(alloc: Global, body: &mut Vec<u8>, rows: &[Entity], show: &Show) -> 
     }
 }
 
-/// 200 with all rows.
-fn list_reply(alloc: Global, rows: &[Entity], show: &Show, close: bool) -> Result<Reply, NoMemory>
-    ensures valid { IfOk result IsReply }
-    ensures shows { IfOk result (ShowsAll show.now rows.now close) }
+/// The list of rows, in their order. The one error is want of memory.
+pub(crate) fn list_body(alloc: Global, rows: &[Entity], show: &Show) -> Result<Blob, NoMemory>
+    ensures { IfOk result (λ body. (texts : List (List ℕ)) × AreTexts show.now rows.now texts × (body ≡ list_body texts)) }
 {
     let mut body = Vec::new(alloc);
     add(&mut body, b"{\"value\":[")?;
     add_rows(alloc, &mut body, rows, show)?;
     add(&mut body, b"]}")?;
+    Blob::of(alloc, &body)
+}
+
+/// 200 with all rows.
+fn list_reply(alloc: Global, rows: &[Entity], show: &Show, close: bool) -> Result<Reply, NoMemory>
+    ensures valid { IfOk result IsReply }
+    ensures shows { IfOk result (ShowsAll show.now rows.now close) }
+{
     Ok(Reply {
         status: 200,
         fields: typed_fields(alloc, "application/json", None)?,
-        body: Blob::of(alloc, &body)?,
+        body: list_body(alloc, rows, show)?,
         close,
     })
 }

@@ -30,6 +30,9 @@ pub enum Route {
     /// `GET` on the table, of one partition at one time.
     Rows,
 
+    /// `GET` on the table, a page of it.
+    Page,
+
     /// `POST` on `/$batch`.
     Changes,
 }
@@ -88,23 +91,16 @@ fn is_list_of_tables(target: &Target) -> bool
 }
 
 /// Whether the machine of that method of the target is built.
-fn is_built(atomic: bool, target: &Target, method: Option<Method>) -> bool
-    ensures { result ≡ is_built atomic target.now method }
+fn is_built(target: &Target, method: Option<Method>) -> bool
+    ensures { result ≡ is_built target.now method }
 {
     let Some(method) = method else {
         return false;
     };
     match target {
         Target::Table { keys, .. } => match keys {
-            Keys::Absent => match method {
-                Method::Post => true,
-                Method::Get => atomic,
-                _ => false,
-            },
-            Keys::Empty => match method {
-                Method::Get => atomic,
-                _ => false,
-            },
+            Keys::Absent => matches!(method, Method::Post | Method::Get),
+            Keys::Empty => matches!(method, Method::Get),
             Keys::Entity { .. } => match method {
                 Method::Get => true,
                 _ => action_of(method).is_some(),
@@ -119,8 +115,8 @@ fn is_built(atomic: bool, target: &Target, method: Option<Method>) -> bool
 }
 
 /// Whether a request is of a kind that is not supported.
-fn is_unsupported(atomic: bool, spelled: &Spelled, method: Option<Method>) -> bool
-    ensures { result ≡ is_unsupported atomic spelled.now method }
+fn is_unsupported(spelled: &Spelled, method: Option<Method>) -> bool
+    ensures { result ≡ is_unsupported spelled.now method }
 {
     let target = &spelled.target;
     let options = spelled.options.as_slice();
@@ -128,7 +124,7 @@ fn is_unsupported(atomic: bool, spelled: &Spelled, method: Option<Method>) -> bo
         return true;
     }
     has_unknown(target, method, options)
-        || (resource_of(target).allows(method) && !is_built(atomic, target, method))
+        || (resource_of(target).allows(method) && !is_built(target, method))
 }
 
 fn is_service(target: &Target) -> bool
@@ -146,7 +142,7 @@ fn is_no_change(spelled: &Spelled, method: Option<Method>) -> bool
 {
     matches!(method, Some(Method::Get))
         || is_service(&spelled.target)
-        || is_unsupported(false, spelled, method)
+        || is_unsupported(spelled, method)
 }
 
 /// Whether the target names another table.
@@ -190,16 +186,15 @@ fn refusal_by(
 /// table of that name. The one error is want of memory.
 pub fn route_refusal(
     alloc: Global,
-    atomic: bool,
     table: &Text,
     spelled: &Spelled,
     method: Option<Method>,
 ) -> Result<Option<BadRequest>, NoMemory>
-    ensures { IfOk result (λ r. r ≡ route_refusal atomic table.now spelled.now method) }
+    ensures { IfOk result (λ r. r ≡ route_refusal table.now spelled.now method) }
 {
     refusal_by(
         alloc,
-        is_unsupported(atomic, spelled, method),
+        is_unsupported(spelled, method),
         table,
         spelled,
         method,
@@ -242,7 +237,7 @@ pub fn write_by(target: Target, method: Option<Method>) -> Option<RowWrite>
     }
 }
 
-/// The read that a target of `GET` names, where it is built.
+/// The read that a target of `GET` names, where it names one.
 fn read_by(atomic: bool, target: Target) -> Option<Route>
     ensures { result ≡ read_by atomic target }
 {
@@ -250,7 +245,13 @@ fn read_by(atomic: bool, target: Target) -> Option<Route>
         return None;
     };
     match keys {
-        Keys::Absent | Keys::Empty => { if atomic { Some(Route::Rows) } else { None } }
+        Keys::Absent | Keys::Empty => {
+            if atomic {
+                Some(Route::Rows)
+            } else {
+                Some(Route::Page)
+            }
+        }
         Keys::Entity { pk, rk } => Some(Route::Row { pk, rk }),
     }
 }

@@ -306,7 +306,7 @@ module _ (upto : Option (List ℕ)) (rows entries : List StoredRow) (rk : List �
 
 -- ---- the puts of a chunk
 
-chunk_want : (upto : Option (List ℕ)) (rows entries : List StoredRow) (rk : List ℕ) (p' : Put) → put_at upto rows entries rk ≡ Some p' → (rk ≢ marker_key) × (want_at upto rows entries rk ≡ want_of (row_in rows rk) (row_in entries rk))
+pub chunk_want : (upto : Option (List ℕ)) (rows entries : List StoredRow) (rk : List ℕ) (p' : Put) → put_at upto rows entries rk ≡ Some p' → (rk ≢ marker_key) × (want_at upto rows entries rk ≡ want_of (row_in rows rk) (row_in entries rk))
 chunk_want upto rows entries rk p' e = go (bytes_eq rk marker_key) (is_upto upto rk) refl refl where
   out : is_of_chunk upto rk ≡ false → ⊥
   out f = (let x : None ≡ Some p' = sym (ap (λ b. put_by rk (props_of (row_in rows rk)) (cond b (want_of (row_in rows rk) (row_in entries rk)) Nothing)) f) ∙ e in cc)
@@ -377,7 +377,7 @@ key_past done rk (r ∷ rows) h there = elim (or_cases (bytes_eq rk r.rk) (has r
   | inr e ↦ key_past done rk rows h.1 e
 ]
 
-want_past : (done upto : Option (List ℕ)) (rows entries : List StoredRow) (rk : List ℕ) → AllByRecursion (λ r. is_from (past done) r.rk ≡ true) rows → AllByRecursion (λ r. is_from (past done) r.rk ≡ true) entries
+pub want_past : (done upto : Option (List ℕ)) (rows entries : List StoredRow) (rk : List ℕ) → AllByRecursion (λ r. is_from (past done) r.rk ≡ true) rows → AllByRecursion (λ r. is_from (past done) r.rk ≡ true) entries
     → wants_put upto rows entries rk ≡ true → is_from (past done) rk ≡ true
 want_past done upto rows entries rk a b h = go (has rk rows) (has rk entries) refl refl where
   go : (x y : Bool) → has rk rows ≡ x → has rk entries ≡ y → is_from (past done) rk ≡ true
@@ -385,7 +385,7 @@ want_past done upto rows entries rk a b h = go (has rk rows) (has rk entries) re
   go false true ex ey = key_past done rk entries b ey
   go false false ex ey = absurd (let x : false ≡ true = sym (ap is_want (nothing_wanted upto rows entries rk (not_there rows rk ex) (not_there entries rk ey))) ∙ h in cc)
 
-wants_it : (rk : List ℕ) (ps : List Prop) (w : Want) (p' : Put) → put_by rk ps w ≡ Some p' → is_want w ≡ true
+pub wants_it : (rk : List ℕ) (ps : List Prop) (w : Want) (p' : Put) → put_by rk ps w ≡ Some p' → is_want w ≡ true
 wants_it rk ps Nothing p' e = absurd (let x = e in cc)
 wants_it rk ps (Insert seen) p' e = refl
 wants_it rk ps (Replace seen own) p' e = refl

@@ -30,7 +30,7 @@ use Rattle.mt_migrate.specs.Chunks.{end_of, chunk_end, is_wanting}
 use Rattle.mt_migrate.specs.Moves.{phase_said, next_rows, Asks, walked, by_old_phase, by_old_marker, by_new_phase, claimed, by_pass, by_read_phase, read_old, pass_done, chunk_done, compared, read_new, unwritten, reading_of, first_tag, AreNext, past, MigratorFits, after_next, after_seal, after_read, after_write, after_sealed_off, after_unmet, moved}
 
 -- rows of the range that was asked for lie past what is done
-past_done : (done upto : Option (List ℕ)) (rows : List StoredRow) → AllByRecursion (λ (r : StoredRow). is_within (next_rows done upto) r.rk ≡ true) rows → AllByRecursion (λ (r : StoredRow). is_from (past done) r.rk ≡ true) rows
+pub past_done : (done upto : Option (List ℕ)) (rows : List StoredRow) → AllByRecursion (λ (r : StoredRow). is_within (next_rows done upto) r.rk ≡ true) rows → AllByRecursion (λ (r : StoredRow). is_from (past done) r.rk ≡ true) rows
 past_done done upto [] h = tt
 past_done done upto (r ∷ rows) h = ((and_parts (is_from (past done) r.rk) (is_upto upto r.rk) h.0).0, past_done done upto rows h.1)
 

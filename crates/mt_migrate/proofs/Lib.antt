@@ -6,4 +6,12 @@ pub mod CopyChanges
 pub mod ChunkLaws
 pub mod Knowing
 pub mod MoverLaw
+pub mod Counts
+pub mod Passing
+pub mod PartsLeft
+pub mod MarkerSteps
+pub mod ChunkSteps
+pub mod AloneLaw
+pub mod AgainLaw
+pub mod BoundLaws
 pub mod Theorems

@@ -113,10 +113,10 @@ walk_law p retired AfterSeal from None s know next = stay p retired (at.Walk Aft
 
 -- ---- a look at old's marker
 
-old_state_is : (p : Pair) (pk : List ℕ) (r : Stored) (phase : Option Phase) → old_at p pk marker_key ≡ Some r → old_phase_of r.tag.store r.props ≡ phase → old_state_at p pk ≡ old_says phase
+pub old_state_is : (p : Pair) (pk : List ℕ) (r : Stored) (phase : Option Phase) → old_at p pk marker_key ≡ Some r → old_phase_of r.tag.store r.props ≡ phase → old_state_at p pk ≡ old_says phase
 old_state_is p pk r phase is reads = ap old_state is ∙ ap old_says reads
 
-new_state_is : (p : Pair) (pk : List ℕ) (r : Stored) (phase : Option NewPhase) → new_at p pk marker_key ≡ Some r → new_phase_of r.props ≡ phase → new_state_at p pk ≡ new_says phase
+pub new_state_is : (p : Pair) (pk : List ℕ) (r : Stored) (phase : Option NewPhase) → new_at p pk marker_key ≡ Some r → new_phase_of r.props ≡ phase → new_state_at p pk ≡ new_says phase
 new_state_is p pk r phase is reads = ap new_state is ∙ ap new_says reads
 
 old_phase_law : (p : Pair) (retired : Bool) (state : State) (part : Part) (named : List StoredRow) (r : Stored) (phase : Option Phase) → IsSound p → AllHold p retired (walk_facts part) → AllHold p retired (row_facts Old part.pk named)
@@ -166,7 +166,7 @@ claimed_law p retired part pass found s know is =
 
 -- ---- old's rows are read
 
-abbrev copying_of : Part → Pass → Tag → Option (List ℕ) → CopyingPart
+abbrev pub copying_of : Part → Pass → Tag → Option (List ℕ) → CopyingPart
 copying_of part pass epoch done = record { part = part; pass = pass; epoch = epoch; done = done }
 
 -- the rows that were read are old's, up to where the reading ends
@@ -292,7 +292,7 @@ rows_less : (p : Pair) (retired : Bool) (copying : CopyingPart) (pass : Pass) (e
 rows_less p retired copying (First marker) end upto rows sub h = h
 rows_less p retired copying Second end upto rows sub h = record { marked = h.marked; turned = h.turned; rows = λ f rk other x. h.rows f rk other (x.0, sub rk x.1, refl) }
 
-fills_at : (p : Pair) (pk : List ℕ) (epoch : Tag) (part : Keys) (m : Stored) → KnowsEpoch p pk epoch part → new_at p pk marker_key ≡ Some m → m.tag ≡ epoch → is_filling (new_state_at p pk) ≡ true
+pub fills_at : (p : Pair) (pk : List ℕ) (epoch : Tag) (part : Keys) (m : Stored) → KnowsEpoch p pk epoch part → new_at p pk marker_key ≡ Some m → m.tag ≡ epoch → is_filling (new_state_at p pk) ≡ true
 fills_at p pk epoch part m know is e = ap (λ x. is_filling (new_state x)) is ∙ ap (λ c. is_filling (new_says c)) (know.filling m is e)
 
 -- the rows that were read are new's, in the chunk

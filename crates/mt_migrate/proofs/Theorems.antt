@@ -1,5 +1,5 @@
 -- The laws of a migrator, in the words of its definitions.
-use Rattle.std.proofs.Common.{◌≡◌, ◌≢◌, ℕ, ◌<◌, Bool, List, ◌∷◌, Option, Some, None, sym, ap, subst, ◌∙◌}
+use Rattle.std.proofs.Common.{◌≡◌, ◌≢◌, inl, inr, ℕ, ◌+◌, ◌*◌, ◌<◌, ◌≤◌, Bool, List, ◌∷◌, length, Option, Some, None, sym, ap, subst, ◌∙◌}
 use Rattle.std.specs.Prelude.{Ok}
 use Rattle.mt_model.specs.declared.tag.Tag.{Tag}
 use Rattle.mt_chain.specs.declared.row.Stored.{Stored}
@@ -19,11 +19,17 @@ use Rattle.mt_migrate.specs.declared.migrator.MoveProgress.{MoveProgress}
 use Rattle.mt_migrate.specs.declared.state.Copying.{Copying}
 use Rattle.mt_migrate.specs.declared.state.State.{State}
 use Rattle.mt_migrate.specs.declared.state.State.TheVariants as at
-use Rattle.mt_migrate.specs.Moves.{Asks, Absorbs, MigratorFits}
+use Rattle.mt_migrate.specs.Moves.{Asks, Absorbs, MigratorFits, GoesOn, begin}
 use Rattle.mt_migrate.specs.Known.{state_facts}
 use Rattle.mt_migrate.specs.MoverSteps.{MoverStep, IsMoved}
+use Rattle.mt_migrate.specs.RowCounts.{partitions, data_in, any_partition}
+use Rattle.mt_migrate.specs.StepsLeft.{steps_left, Stands}
+use Rattle.mt_migrate.specs.MostLeft.{Lasts}
 use Rattle.mt_meta.proofs.StorePuts.{tagged}
 use Rattle.mt_migrate.proofs.MoverLaw.{mover_law}
+use Rattle.mt_migrate.proofs.AgainLaw.{lasts_less}
+use Rattle.mt_migrate.proofs.AloneLaw.{nears_end, begins_within}
+use Rattle.mt_migrate.proofs.BoundLaws.{most_within, lasts_some}
 
 -- each step of a migrator keeps the pair sound, the table that clients see, and what every step is to keep but for the entries of its own epoch; what it knows then holds
 pub steps_are_steps_of_an_actor : (state to : State) (a : StoreAsk) (r : StoreReply) (said : MoveProgress) (p q : Pair) (retired : Bool) → MigratorFits state → IsSound p → p.old_number < p.new_number → IsContents p.old → IsContents p.new
@@ -52,3 +58,28 @@ former_epoch_changes_nothing copying upto rows entries a reply.SealedOff p q m a
 former_epoch_changes_nothing copying upto rows entries a (reply.Found found) p q m asks means there other = absurd (subst (λ x. PairMeans x (reply.Found found) p q) asks.2 means).0
 former_epoch_changes_nothing copying upto rows entries a (reply.Next next) p q m asks means there other = absurd (subst (λ x. PairMeans x (reply.Next next) p q) asks.2 means).0
 former_epoch_changes_nothing copying upto rows entries a reply.SealDone p q m asks means there other = absurd (subst (λ x. PairMeans x reply.SealDone p q) asks.2 means).0
+
+-- a migrator that acts alone, and whose rows in hand stand, comes nearer to its end with each step
+pub steps_alone_near_the_end : (state to : State) (a : StoreAsk) (r : StoreReply) (said : MoveProgress) (p q : Pair) (retired : Bool) → MigratorFits state → IsSound p → IsContents p.old → IsContents p.new
+    → AllHold p retired (state_facts state) → Stands p state → Asks state a → PairMeans a r p q → Absorbs state r (Ok said) to → Stands q to × (steps_left to q + 1 ≤ steps_left state p)
+steps_alone_near_the_end state to a r said p q retired fits s old new know stands asks means absorbs =
+    let h = nears_end state r a p q retired fits s old.rising new.rising know stands asks means in
+    subst (λ x. Stands q x × (steps_left x q + 1 ≤ steps_left state p)) (sym absorbs.0) (h.stands, h.less)
+
+-- it is done within these steps from its beginning, where nothing is in hand: by old's partitions, old's data rows and new's data rows
+pub few_steps_from_the_beginning : (p : Pair) → Lasts (16 * (partitions any_partition p + 1) + 6 * (data_in any_partition p.old.rows + data_in any_partition p.new.rows)) p begin
+few_steps_from_the_beginning p = inl (tt, begins_within p)
+
+-- whatever others did before, it lasts fewer steps after each that it makes alone
+pub each_step_alone_lasts_less : (n : ℕ) (state to : State) (a : StoreAsk) (r : StoreReply) (said : MoveProgress) (p q : Pair) (retired : Bool) → MigratorFits state → IsSound p → IsContents p.old → IsContents p.new
+    → AllHold p retired (state_facts state) → Asks state a → PairMeans a r p q → Absorbs state r (Ok said) to → Lasts n p state → (m : ℕ) × (m + 1 ≤ n) × Lasts m q to
+each_step_alone_lasts_less n state to a r said p q retired fits s old new know asks means absorbs lasts =
+    subst (λ x. (m : ℕ) × (m + 1 ≤ n) × Lasts m q x) (sym absorbs.0) (lasts_less n state r a p q retired fits s old.rising new.rising know asks means lasts)
+
+-- so it is done within these steps from every state: by the rows of both stores, markers among them
+pub few_steps_from_any_state : (state : State) (p : Pair) → IsContents p.old → IsContents p.new → Lasts (28 * (length p.old.rows + length p.new.rows) + 16) p state
+few_steps_from_any_state state p old new = inr (most_within state p (old.rising, new.rising))
+
+-- where no steps are left it is done
+pub some_steps_are_left : (n : ℕ) (p : Pair) (state : State) → Lasts n p state → GoesOn state → 1 ≤ n
+some_steps_are_left = lasts_some

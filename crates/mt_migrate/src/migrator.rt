@@ -1,5 +1,5 @@
 //! A migrator.
-ghost use Rattle.std.specs.Prelude.{◌≡◌, IfOk, IfErr};
+ghost use Rattle.std.specs.Prelude.{◌≡◌, IfOk, IfErr, MatchBool};
 ghost use Rattle.mt_chain.specs.declared.ask.StoreAsk.{StoreAsk};
 ghost use Rattle.mt_chain.specs.Asks.{CanAsk, FitsAsk};
 ghost use Rattle.mt_migrate.specs.Moves.{Asks, Absorbs, MigratorFits, GoesOn, TakesMemory, begin, end_read, after_next, after_seal, after_read, after_write, after_sealed_off, after_unmet, moved, progress_at};
@@ -177,6 +177,14 @@ impl Migrator {
             State::Done => MoveProgress::Done,
             _ => MoveProgress::More,
         }
+    }
+
+    /// Whether it has come to its end.
+    pub fn is_done(&self) -> bool
+        ensures value { MatchBool result (progress_at self.now ≡ MoveProgress.Done) (GoesOn self.now) }
+        ensures valid { MigratorFits self.now }
+    {
+        matches!(self.state, State::Done)
     }
 
     /// The next store call of a migrator that is not done: the next partition of old, the seal of old,

@@ -60,6 +60,7 @@ old_not_read s s' t read.Failed r = record {
   faults = inl (r.passed.faults, refl);
   called = tt;
   rising = tt;
+  contents = tt;
   shows = tt;
 }
 old_not_read s s' t read.NoMemory r = record {
@@ -68,6 +69,7 @@ old_not_read s s' t read.NoMemory r = record {
   faults = (r.passed.faults, refl);
   called = tt;
   rising = tt;
+  contents = tt;
   shows = nothing_found t s';
 }
 
@@ -79,6 +81,7 @@ new_not_read s s' t t' a read.Failed low r = record {
   faults = inr (low.passed.faults, r.passed.faults);
   called = tt;
   rising = tt;
+  contents = tt;
   shows = tt;
 }
 new_not_read s s' t t' a read.NoMemory low r = record {
@@ -87,6 +90,7 @@ new_not_read s s' t t' a read.NoMemory low r = record {
   faults = (low.passed.faults, r.passed.faults);
   called = tt;
   rising = tt;
+  contents = tt;
   shows = nothing_found t t';
 }
 
@@ -98,6 +102,7 @@ both_read s s' t t' a b (Ok es) low high found = record {
   faults = (low.passed.faults, high.passed.faults);
   called = (low.shows.1, high.shows.1);
   rising = found.1.rising;
+  contents = (low.shows.3, high.shows.3);
   shows = for_held t t' a b (λ p. Finds p (Ok es)) low.shows.0 high.shows.0 (told_held s t a low) (told_held s' t' b high) found;
 }
 both_read s s' t t' a b (Err (fault.Damaged store key rule)) low high found = record {
@@ -106,6 +111,7 @@ both_read s s' t t' a b (Err (fault.Damaged store key rule)) low high found = re
   faults = (low.passed.faults, high.passed.faults);
   called = (low.shows.1, high.shows.1);
   rising = tt;
+  contents = tt;
   shows = for_held t t' a b (λ p. Finds p (Err (fault.Damaged store key rule))) low.shows.0 high.shows.0 (told_held s t a low) (told_held s' t' b high) found;
 }
 both_read s s' t t' a b (Err fault.StoreFault) low high found = absurd found
@@ -115,6 +121,7 @@ both_read s s' t t' a b (Err fault.NoMemory) low high found = record {
   faults = (low.passed.faults, high.passed.faults);
   called = tt;
   rising = tt;
+  contents = tt;
   shows = nothing_found t t';
 }
 

@@ -394,6 +394,7 @@ walk_end s t u at loaded next walked asks e sealed = record {
   shows = (
     rose_by s t u walked.passed.calls asks.shows.0,
     onward_one (Mid at loaded.rows next) (IsRead loaded.rows loaded.sealed) s.told u.told (finish at loaded next e sealed) (mid s t u at loaded.rows next walked asks),
+    asks.shows.0.contents,
   );
 }
 

@@ -4,7 +4,7 @@ use Rattle.mt_model.specs.declared.entity.Entity.{Entity}
 use Rattle.mt_model.specs.declared.key.Key.{Key}
 use Rattle.mt_chain.specs.Rows.{are_rising}
 use Rattle.mt_chain.specs.Table.{IsListing, rows_of}
-use Rattle.mt_chain.specs.StoreCall.{Contents}
+use Rattle.mt_chain.specs.StoreCall.{Contents, IsContents}
 use Rattle.mt_chain.specs.Store.{Store, Onward, Rose, FaultsBy}
 use Rattle.mt_meta.specs.Logical.{Pair, ForPair}
 use Rattle.mt_meta.specs.Sound.{IsSound}
@@ -67,6 +67,8 @@ pub record OpensPair (s s' : Store) (r : Result (List Entity) OpenFault) (t t' :
   pub faults : OpenFaults (is_store_fault r) s s' t t'
   pub called : AreCalled r s s' t t'
   pub rising : IfOk r (λ es. IsTrue (are_rising (rows_of es)))
+  -- the keys of what a store tells rise
+  pub contents : IfOk r (λ es. IfSome t.told IsContents × IfSome t'.told IsContents)
   pub shows : OpenShows r t t'
 
 -- ---- and whether old has nothing left
@@ -94,7 +96,7 @@ pub record OpensStores (s s' : Store) (r : Result OpenedPair OpenFault) (t t' : 
 
 -- a store as it was read, with its number, or why it was not
 abbrev pub HoldShows : Result Held ReadFault → Store → Store → Type 0
-HoldShows (Ok held) s t = (held.number ≡ t.number) × Rose s.calls t.calls × Onward (λ before after. (after ≡ before) × (held.contents ≡ before)) s.told t.told
+HoldShows (Ok held) s t = (held.number ≡ t.number) × Rose s.calls t.calls × Onward (λ before after. (after ≡ before) × (held.contents ≡ before)) s.told t.told × IfSome t.told IsContents
 HoldShows (Err fault) s t = AsBefore s t
 
 -- what comes of reading a store with its number

@@ -1,5 +1,5 @@
 -- A store that is read whole: what the parts of the reading say.
-use Rattle.std.specs.Prelude.{◌≡◌, ℕ, ◌≤◌, Bool, true, false, not, ◌&&◌, IsTrue, bytes_eq, List, [], ◌++◌, map, Option, None, Some, option_map, Result, Ok, Err, if◌then◌else◌}
+use Rattle.std.specs.Prelude.{◌≡◌, ℕ, ◌≤◌, Bool, true, false, not, ◌&&◌, IsTrue, IfSome, bytes_eq, List, [], ◌++◌, map, Option, None, Some, option_map, Result, Ok, Err, if◌then◌else◌}
 use Rattle.std.specs.List.{AllByRecursion}
 use Rattle.std.specs.List.Sorted.{IsStrictlySortedBy}
 use Rattle.std.specs.Ordering.{nat_cmp}
@@ -18,7 +18,7 @@ use Rattle.mt_chain.specs.declared.query.Found.{Found}
 use Rattle.mt_chain.specs.declared.query.Next.{Next}
 use Rattle.mt_chain.specs.Rows.{last_key, Rows, key_at, are_rising, is_from}
 use Rattle.mt_chain.specs.Places.{is_before, is_passed}
-use Rattle.mt_chain.specs.StoreCall.{Contents}
+use Rattle.mt_chain.specs.StoreCall.{Contents, IsContents}
 use Rattle.mt_chain.specs.Store.{Store, Onward, FaultsBy, Rose, Counted, Same, Queried, NextShows}
 use Rattle.mt_open.specs.declared.reading.Loaded.{Loaded}
 use Rattle.mt_open.specs.declared.reading.ReadFault.{ReadFault}
@@ -51,9 +51,9 @@ AsBefore s t = Onward Same s.told t.told
 abbrev pub IsRead : Rows → Bool → Contents → Contents → Type 0
 IsRead rows sealed before after = (after ≡ before) × (rows ≡ before.rows) × (sealed ≡ before.sealed)
 
--- what was read: the store was called, and where it tells, it is what it holds
+-- what was read: the store was called, and where it tells, it is what it holds, whose keys rise
 abbrev pub ReadShows : Result Loaded ReadFault → Store → Store → Type 0
-ReadShows (Ok loaded) s t = Rose s.calls t.calls × Onward (IsRead loaded.rows loaded.sealed) s.told t.told
+ReadShows (Ok loaded) s t = Rose s.calls t.calls × Onward (IsRead loaded.rows loaded.sealed) s.told t.told × IfSome t.told IsContents
 ReadShows (Err fault) s t = AsBefore s t
 
 -- what comes of reading a store

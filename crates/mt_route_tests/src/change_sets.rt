@@ -1,5 +1,5 @@
 //! Change sets: store calls and entries.
-use crate::sessions::{CREATED, FRESH, INSERT, Plan, comes_to, world_of, written};
+use crate::sessions::{CREATED, FRESH, INSERT, Plan, Room, comes_to, world_of, written};
 use mt_chain::Keeper;
 use std::alloc::Global;
 use std::test::Fail;
@@ -167,14 +167,14 @@ fn whole_replies_in_place_of_the_parts(rt: HostRuntime) -> Result<(), Fail> {
     let alloc = rt.alloc();
     let input = set_of(alloc, &[Part::Row(0), Part::Row(1)])?;
     // Call 1 of old opens it, and the first insert takes two more: call 4 reads, and call 5 writes.
-    for (failing_old, is_short, line, counted) in [
-        (4, false, FAULT, "calls 3 rows 1: batch fault"),
-        (5, false, FAULT, "calls 4 rows 1: batch fault"),
-        (0, true, FULL, "calls 2 rows 1: batch"),
+    for (failing_old, room, line, counted) in [
+        (4, Room::Ten, FAULT, "calls 3 rows 1: batch fault"),
+        (5, Room::Ten, FAULT, "calls 4 rows 1: batch fault"),
+        (0, Room::One, FULL, "calls 2 rows 1: batch"),
     ] {
         let plan = Plan {
             failing_old,
-            is_short,
+            room,
             ..FRESH
         };
         let mut world = world_of(alloc, plan)?;

@@ -1,5 +1,5 @@
 //! Reads: store calls and entries.
-use crate::sessions::{CREATED, FRESH, INSERT, Plan, comes_to, world_of, written};
+use crate::sessions::{CREATED, FRESH, INSERT, Plan, Room, comes_to, world_of, written};
 use mt_test_stores::{FILLING, TURNED};
 use std::test::Fail;
 
@@ -55,14 +55,14 @@ fn a_read_takes_one_store_call(rt: HostRuntime) -> Result<(), Fail> {
 #[test]
 fn a_read_that_is_not_answered(rt: HostRuntime) -> Result<(), Fail> {
     let alloc = rt.alloc();
-    for (failing_old, is_short, line, counted) in [
-        (4, false, FAULT, "calls 3 rows 1: batch fault"),
-        (0, true, FULL, "calls 2 rows 1: batch"),
+    for (failing_old, room, line, counted) in [
+        (4, Room::Ten, FAULT, "calls 3 rows 1: batch fault"),
+        (0, Room::One, FULL, "calls 2 rows 1: batch"),
     ] {
         for input in [GET, GET_ABSENT, ATOMIC] {
             let plan = Plan {
                 failing_old,
-                is_short,
+                room,
                 ..FRESH
             };
             let mut world = world_of(alloc, plan)?;

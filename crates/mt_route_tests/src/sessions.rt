@@ -1,5 +1,5 @@
 //! Connections one after the other on a world of two stores in memory, and what is counted of it.
-ghost use Rattle.std.specs.Prelude.{◌≡◌};
+ghost use Rattle.std.specs.Prelude.{◌≡◌, ◌≤◌};
 
 use mt_front::session;
 use mt_history::{History, What};
@@ -11,6 +11,14 @@ use mt_world::World;
 use std::alloc::Global;
 use std::test::Fail;
 
+/// How many entries a history may have.
+#[derive(Clone, Copy)]
+pub enum Room {
+    One,
+    Three,
+    Ten,
+}
+
 /// A world as it begins.
 #[derive(Clone, Copy)]
 pub struct Plan {
@@ -20,8 +28,7 @@ pub struct Plan {
     /// The call of old that fails, or 0. Call 1 opens the store.
     pub failing_old: u64,
 
-    /// Whether the history may have one entry alone, and not ten.
-    pub is_short: bool,
+    pub room: Room,
 }
 
 /// Two stores without rows, of which no call fails.
@@ -29,20 +36,30 @@ pub const FRESH: Plan = Plan {
     old: &[],
     new: &[],
     failing_old: 0,
-    is_short: false,
+    room: Room::Ten,
 };
+
+fn entries_of(room: Room) -> u64
+    ensures some { 1 ≤ result }
+    ensures bounded { result ≤ 1048576 }
+{
+    match room {
+        Room::One => 1,
+        Room::Three => 3,
+        Room::Ten => 10,
+    }
+}
 
 fn opened(
     alloc: Global,
     old: MemKeeper,
     new: MemKeeper,
-    is_short: bool,
+    room: Room,
 ) -> Result<World<MemKeeper>, Fail>
     requires old { old.store ≡ 0 }
     requires new { new.store ≡ 1 }
 {
-    let entries = if is_short { 1 } else { 10 };
-    match World::open_world(alloc, old, new, entries) {
+    match World::open_world(alloc, old, new, entries_of(room)) {
         Ok(world) => Ok(world),
         Err(_) => Err(Fail::new("two stores were not opened")),
     }
@@ -51,7 +68,7 @@ fn opened(
 pub fn world_of(alloc: Global, plan: Plan) -> Result<World<MemKeeper>, Fail> {
     let old = failing_store(alloc, 0, plan.old, plan.failing_old)?;
     let new = store_of(alloc, 1, plan.new)?;
-    opened(alloc, old, new, plan.is_short)
+    opened(alloc, old, new, plan.room)
 }
 
 /// What a connection on the table `Orders` writes that has this input.
@@ -73,8 +90,9 @@ fn kind(what: &What) -> &'static str {
         What::Batch { .. } => "batch",
         What::Refused { .. } => "refused",
         What::Query { .. } => "query",
+        What::Scan { .. } => "scan",
+        What::Gap { .. } => "gap",
         What::Fault => "fault",
-        _ => "other",
     }
 }
 

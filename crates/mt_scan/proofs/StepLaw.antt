@@ -268,7 +268,7 @@ side_asked bounds (at.Parts from) half = refl
 side_asked bounds at.End half = refl
 
 -- what a page knows speaks of no epoch
-half_plain : (page : Page) (place : Place) (half : Half) → AllPlain (half_facts page.bounds place half)
+pub half_plain : (page : Page) (place : Place) (half : Half) → AllPlain (half_facts page.bounds place half)
 half_plain page (at.Rows pk row) First = tt
 half_plain page (at.Rows pk row) (Turned old) = (tt, tt)
 half_plain page (at.Rows pk row) Closed = (tt, tt)

@@ -28,6 +28,11 @@ abbrev pub Runs : Bounds → Option Filter → Place → List Step → Place →
 Runs bounds filter place [] to = to ≡ place
 Runs bounds filter place (s ∷ steps) to = IsNext place s.unit × Delivers filter s.unit s.table s.rows × Runs bounds filter (after_unit bounds s.unit) steps to
 
+-- units that follow one another from a place to a place, whatever they say of their tables
+abbrev pub Follow : Bounds → Place → List Step → Place → Type 0
+Follow bounds place [] to = to ≡ place
+Follow bounds place (s ∷ steps) to = IsNext place s.unit × Follow bounds (after_unit bounds s.unit) steps to
+
 -- the key lies in the unit
 abbrev pub in_unit : PageUnit → Key → Bool
 in_unit (Scan pk from upto) key = in_range pk from upto key

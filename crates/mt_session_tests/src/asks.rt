@@ -1,10 +1,11 @@
-//! What single requests ask for: the operation, the rows, or the first refusal.
-use mt_chain::{Cond, Op};
-use mt_front::{Asked, BadPart, BadRequest, Resource, Shape, Writes, asked_by};
+//! What single requests ask for: the operation, the rows, a page, or the first refusal.
+use mt_chain::{Cond, Op, PkFrom};
+use mt_front::{Asked, BadPart, BadRequest, PageRead, Resource, Shape, Writes, asked_by};
 use mt_http_in::{Field, Fields, Incoming};
 use mt_json::Level;
 use mt_mime::Echo;
 use mt_model::{Blob, Key, Name, Prop, Props, Tag, Text, Value};
+use mt_scan::Token;
 use mt_target::Service;
 use std::alloc::Global;
 use std::test::Fail;
@@ -33,6 +34,7 @@ enum Got {
     /// So many operations of a change set.
     ChangeSet(usize),
     Read(Shape),
+    Page,
     Refused(BadRequest),
     RefusedPart(BadPart),
 }
@@ -116,6 +118,7 @@ fn shortly(asked: &Asked) -> Got {
     match asked {
         Asked::Write(writes) => writes_shortly(writes),
         Asked::Read(read) => Got::Read(read.shape),
+        Asked::Page(_) => Got::Page,
         Asked::Refused(refusal) => Got::Refused(*refusal),
         Asked::RefusedPart(bad) => Got::RefusedPart(*bad),
     }
@@ -136,6 +139,8 @@ const NO_TABLE: Got = Got::Refused(BadRequest::TableNotFound);
 
 const REPEATED: Got = Got::Refused(BadRequest::InvalidQuery);
 
+const BAD_OPTION: Got = Got::Refused(BadRequest::InvalidQuery);
+
 const INSERTED: Got = Got::Insert(Echo::Entity(Level::Minimal));
 
 /// The resource does not have the method.
@@ -152,8 +157,8 @@ fn methods_of_resources(rt: HostRuntime) -> Result<(), Fail> {
         ("MERGE", ENTITY, Got::InsertOrMerge),
         ("PATCH", ENTITY, Got::InsertOrMerge),
         ("DELETE", ENTITY, UNMATCHED),
-        ("GET", "/Orders", UNSUPPORTED),
-        ("GET", "/Orders()", UNSUPPORTED),
+        ("GET", "/Orders", Got::Page),
+        ("GET", "/Orders()", Got::Page),
         ("GET", ENTITY, Got::Read(Shape::One)),
         ("POST", "/$batch", Got::Refused(BadRequest::InvalidBatch)),
         ("POST", "/$mt/migrate?steps=1", UNSUPPORTED),
@@ -253,7 +258,7 @@ fn the_route_refuses_in_order(rt: HostRuntime) -> Result<(), Fail> {
     for (method, target, want) in [
         ("HEAD", "/ab?comp=acl", INVALID),
         ("HEAD", "/Other?comp=acl&a&a", UNSUPPORTED),
-        ("GET", "/Other", UNSUPPORTED),
+        ("GET", "/Other", NO_TABLE),
         ("PUT", "/Orders?$top=5", UNSUPPORTED),
         ("HEAD", "/Other?a&a", NO_TABLE),
         ("HEAD", "/Orders?a&a", refused_at(Resource::Table)),
@@ -524,6 +529,108 @@ fn keeps_key_and_properties(rt: HostRuntime) -> Result<(), Fail> {
         let asked = asked(alloc, sent)?;
         let got = shortly(&asked);
         assert!(rt; is_as_sent(alloc, &asked)?, "{got:?}");
+    }
+    Ok(())
+}
+
+/// Where a page begins, in short.
+#[derive(Clone, Copy, Debug, PartialEq, Eq)]
+enum Begin<'a> {
+    AtFirst,
+    From(&'a str),
+    AfterRow(&'a str, &'a str),
+    Past(&'a str),
+}
+
+fn begin_of(page: &PageRead) -> Begin<'_> {
+    match &page.token {
+        None => Begin::AtFirst,
+        Some(Token::Row(key)) => Begin::AfterRow(key.pk.as_str(), key.rk.as_str()),
+        Some(Token::Part(PkFrom::From(pk))) => Begin::From(pk.as_str()),
+        Some(Token::Part(PkFrom::After(pk))) => Begin::Past(pk.as_str()),
+    }
+}
+
+/// Whether a page is asked for of at most so many rows, with a filter or not, that begins there.
+fn is_page_from(asked: &Asked, top: u32, is_filtered: bool, begin: Begin<'_>) -> bool {
+    let Asked::Page(page) = asked else {
+        return false;
+    };
+    page.top == top && page.filter.is_some() == is_filtered && begin_of(page) == begin
+}
+
+fn asked_of_get(alloc: Global, target: &'static str) -> Result<Asked, Fail> {
+    let method = "GET";
+    asked(
+        alloc,
+        Sent {
+            method,
+            target,
+            ..INSERT
+        },
+    )
+}
+
+#[test]
+fn pages(rt: HostRuntime) -> Result<(), Fail> {
+    let alloc = rt.alloc();
+    for (target, top, is_filtered, begin) in [
+        ("/Orders", 1_000, false, Begin::AtFirst),
+        ("/Orders()?$top=1", 1, false, Begin::AtFirst),
+        (
+            "/Orders()?$top=1000&$filter=Age%20gt%2030",
+            1_000,
+            true,
+            Begin::AtFirst,
+        ),
+        (
+            "/Orders?NextPartitionKey=1!bQ",
+            1_000,
+            false,
+            Begin::From("m"),
+        ),
+        (
+            "/Orders?NextPartitionKey=1!bQ&NextRowKey=1!cg&$top=7",
+            7,
+            false,
+            Begin::AfterRow("m", "r"),
+        ),
+        (
+            "/Orders()?NextPartitionKey=2!cDEyNw&$filter=A%20eq%201",
+            1_000,
+            true,
+            Begin::Past("p127"),
+        ),
+    ] {
+        let asked = asked_of_get(alloc, target)?;
+        assert!(rt; is_page_from(&asked, top, is_filtered, begin), "{target}");
+    }
+    Ok(())
+}
+
+/// A bad `$top` and a token that cannot be read come before a filter that cannot be read.
+#[test]
+fn pages_are_refused_in_order(rt: HostRuntime) -> Result<(), Fail> {
+    let alloc = rt.alloc();
+    let bad_filter = Got::Refused(BadRequest::InvalidFilter { at: 0 });
+    for (target, want) in [
+        ("/Orders()?$top=0", BAD_OPTION),
+        ("/Orders()?$top=1001", BAD_OPTION),
+        ("/Orders()?$top=01", BAD_OPTION),
+        ("/Orders()?$top=", BAD_OPTION),
+        ("/Orders()?NextRowKey=1!cg", BAD_OPTION),
+        (
+            "/Orders()?NextPartitionKey=2!bQ&NextRowKey=1!cg",
+            BAD_OPTION,
+        ),
+        ("/Orders()?NextPartitionKey=1!bR&$filter=!", BAD_OPTION),
+        ("/Orders()?$top=0&$filter=!", BAD_OPTION),
+        ("/Orders()?$top=1&$top=1", REPEATED),
+        ("/Orders()?$filter=!", bad_filter),
+    ] {
+        let asked = asked_of_get(alloc, target)?;
+        let got = shortly(&asked);
+        assert!(rt; got == want, "{got:?} for {target}");
     }
     Ok(())
 }

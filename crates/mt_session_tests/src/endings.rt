@@ -35,8 +35,8 @@ fn ends_of_the_input(rt: HostRuntime) -> Result<(), Fail> {
     let alloc = rt.alloc();
     let insert = Ask::Insert("r");
     for (asks, want) in [
-        ([Ask::Get, insert], Output::OtherAndCreated),
-        ([insert, Ask::Get], Output::CreatedAndOther),
+        ([Ask::Tables, insert], Output::OtherAndCreated),
+        ([insert, Ask::Tables], Output::CreatedAndOther),
     ] {
         let input = requests_of(alloc, &asks)?;
         let want = text_of(alloc, want)?;

@@ -207,7 +207,7 @@ fn what_is_no_whole_request(rt: HostRuntime) -> Result<(), Fail> {
 fn refusals_that_go_on(rt: HostRuntime) -> Result<(), Fail> {
     let alloc = rt.alloc();
     for (before, output) in [
-        ("GET /Orders HTTP/1.1\r\n\r\n", Output::OtherAndCreated),
+        ("GET /Tables HTTP/1.1\r\n\r\n", Output::OtherAndCreated),
         ("HEAD /Orders HTTP/1.1\r\n\r\n", Output::UnallowedAndCreated),
         (
             "POST /Orders HTTP/1.1\r\nContent-Encoding: gzip\r\nContent-Length: 2\r\n\r\n{}",

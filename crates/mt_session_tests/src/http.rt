@@ -34,8 +34,8 @@ pub enum Ask {
     Merge(&'static str, Match),
     Delete(&'static str, Match),
 
-    /// `GET` on the table.
-    Get,
+    /// `GET` on the list of tables, which is not supported.
+    Tables,
 }
 
 /// A reply, with the number in the row's tag.
@@ -93,7 +93,7 @@ pub fn request_of(alloc: Global, ask: Ask) -> Result<String, Fail> {
         Ask::Put(row, says) => entity_of(alloc, "PUT", row, says, "{\"A\":\"x\"}"),
         Ask::Merge(row, says) => entity_of(alloc, "MERGE", row, says, "{\"B\":\"y\"}"),
         Ask::Delete(row, says) => entity_of(alloc, "DELETE", row, says, ""),
-        Ask::Get => Ok(String::from_str(alloc, "GET /Orders HTTP/1.1\r\nHost: x\r\n\r\n")?),
+        Ask::Tables => Ok(String::from_str(alloc, "GET /Tables HTTP/1.1\r\nHost: x\r\n\r\n")?),
     }
 }
 

@@ -12,6 +12,7 @@ use Rattle.mt_filter.specs.declared.filter.Filter.{Filter}
 use Rattle.mt_chain.specs.declared.op.Op.{Op}
 use Rattle.mt_chain.specs.Table.{Table, IsSameTable, table_of, rows_of}
 use Rattle.mt_chain.specs.Batch.{refusal_of, batch_applied, op_at, row_after, Tagged}
+use Rattle.mt_chain.specs.StoreCall.{IsContents}
 use Rattle.mt_chain.specs.Store.{Rose}
 use Rattle.mt_chain.proofs.Theorems.{same_refusal}
 use Rattle.mt_history.specs.declared.entry.What.{What}
@@ -148,11 +149,13 @@ pub record IsStepped (w w' : WorldState) (own own' : List Fact) (p q : Pair) (en
   pub same : IsSameWorld w w'
   pub below : p.old_number < p.new_number
   pub due : (caller : ℕ) → next_number w.numbers caller ≡ number_due w.history.entries caller
+  pub contents : IsContents q.old × IsContents q.new
   pub step : ActorStep own own' w.retired w'.retired (EntryDoes entry) p q
 
 pub replay_on : (w w' : WorldState) (caller : ℕ) (own own' : List Fact) (p q : Pair) (entry : Option NewEntry) → w'.history.entries ≡ entries_with w.history.entries w.numbers caller entry → IsReplayed w p → IsStepped w w' own own' p q entry → IsReplayed w' q
 replay_on w w' caller own own' p q None entries h s = record {
   sound = s.step.sound;
+  contents = s.contents;
   legal = subst IsLegal (sym (window_stays w w' s.same entries)) h.legal;
   table = subst (λ x. IsSameTable (logical_table q) (table_at_end x)) (sym (window_stays w w' s.same entries)) (λ key. s.step.does key ∙ h.table key);
   given_before = subst (λ base. (tag : Tag) → HasTag (table_of (rows_of base)) tag → IsGiven q tag) (sym s.same.base) (λ tag has. given_on own p q tag s.step.grows (h.given_before tag has));
@@ -163,6 +166,7 @@ replay_on w w' caller own own' p q (Some x) entries h s =
     let e = entry_of w.numbers caller x.what in
     record {
       sound = s.step.sound;
+      contents = s.contents;
       legal = subst IsLegal (sym (window_grows w w' e s.same entries)) (legal_grows (window_of w) e h.legal (record { says = says_true w x.what p q s.below h s.step.does.0; number = next_is w caller x.what s.due }));
       table = subst (IsSameTable (logical_table q)) (sym (table_grows w w' e s.same entries)) (says_table w x.what p q h s.step.does.0);
       given_before = subst (λ base. (tag : Tag) → HasTag (table_of (rows_of base)) tag → IsGiven q tag) (sym s.same.base) (λ tag has. given_on own p q tag s.step.grows (h.given_before tag has));

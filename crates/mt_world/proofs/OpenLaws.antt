@@ -9,7 +9,7 @@ use Rattle.mt_model.specs.declared.name.Hidden.TheVariants as hidden
 use Rattle.mt_model.specs.Props.{hidden_text}
 use Rattle.mt_chain.specs.declared.row.Stored.{Stored}
 use Rattle.mt_chain.specs.Rows.{Rows, row_at}
-use Rattle.mt_chain.specs.StoreCall.{Contents}
+use Rattle.mt_chain.specs.StoreCall.{IsContents}
 use Rattle.mt_chain.specs.Store.{Store}
 use Rattle.mt_chain.specs.Table.{IsListing, table_of, rows_of}
 use Rattle.mt_history.specs.Window.{replay}
@@ -24,7 +24,7 @@ use Rattle.mt_meta.specs.Sound.{IsSound, IsKept}
 use Rattle.mt_meta.specs.Steps.{as_row, logical_table, IsEmptied, IsGiven}
 use Rattle.mt_open.specs.Opening.{OpensPair, is_emptied}
 use Rattle.mt_world.specs.Worlds.{WorldState, IsReplayed, IsWorld, window_of, pair_of, faults_in, next_number, number_due}
-use Rattle.mt_world.proofs.PairLaws.{for_pair, at_pair}
+use Rattle.mt_world.proofs.PairLaws.{some_of, for_pair, at_pair}
 use Rattle.mt_world.proofs.EntryLaws.{no_tags}
 
 -- ---- the tags that clients see of a sound pair were given
@@ -133,14 +133,11 @@ no_rows (r ∷ rows) h pk rk = absurd (let some : (length (r ∷ rows) == 0) ≡
 emptied : (p : Pair) → is_emptied p.old ≡ true → IsEmptied p
 emptied p e = (let both = and_parts p.old.sealed (length p.old.rows == 0) e in record { sealed = both.0; rows = no_rows p.old.rows both.1 })
 
-some_of : (P : Contents → Type 0) (o : Option Contents) (c : Contents) → o ≡ Some c → IfSome o P → P c
-some_of P None c e h = absurd cc
-some_of P (Some d) c e h = (let same : d ≡ c = cc in subst P same h)
-
 -- a world without history over a sound pair
-opened_replayed : (w : WorldState) (p : Pair) → p.new_number ≡ p.old_number + 1 → IsSound p × IsListing w.base (logical_table p) → w.history.entries ≡ [] → (w.retired ≡ is_emptied p.old) → IsReplayed w p
-opened_replayed w p next found entries retired = record {
+opened_replayed : (w : WorldState) (p : Pair) → p.new_number ≡ p.old_number + 1 → IsSound p × IsListing w.base (logical_table p) → IsContents p.old × IsContents p.new → w.history.entries ≡ [] → (w.retired ≡ is_emptied p.old) → IsReplayed w p
+opened_replayed w p next found contents entries retired = record {
   sound = found.0;
+  contents = contents;
   legal = nothing_is_legal (window_of w) entries;
   table = λ key. sym (found.1.rows key) ∙ sym (ap (λ es. replay (table_of (rows_of w.base)) es key) entries);
   given_before = listed_given p w.base found.0 next found.1;
@@ -156,7 +153,7 @@ opened_world w s s' numbers opens first entries bounded none no_faults generatio
   bounded = bounded;
   rising = opens.rising;
   replayed = for_pair w (IsReplayed w) (λ a b ea eb. opened_replayed w (pair_of w a b) next
-      (at_pair w (λ p. IsSound p × IsListing w.base (logical_table p)) a b ea eb opens.shows) entries (some_of (λ c. w.retired ≡ is_emptied c) w.old_store.told a ea retired));
+      (at_pair w (λ p. IsSound p × IsListing w.base (logical_table p)) a b ea eb opens.shows) (some_of IsContents w.old_store.told a ea opens.contents.0, some_of IsContents w.new_store.told b eb opens.contents.1) entries (some_of (λ c. w.retired ≡ is_emptied c) w.old_store.told a ea retired));
   due = λ whole caller. ap (λ ns. next_number ns caller) none ∙ sym (ap (λ es. number_due es caller) entries);
   fault_entries = λ whole. no_faults ∙ sym (ap faults_in entries);
   faults = inl (omega (arith, faults, no_faults));

@@ -1,6 +1,6 @@
 -- From stores that may stop telling to a pair that is told.
 use Rattle.std.proofs.Common.{◌≡◌, ◌∙◌, ◌⊎◌, ◌≤◌, true, refl, sym, ap, subst, arith, inl, inr, Option, Some, None, Result, Ok, Err}
-use Rattle.std.specs.Prelude.{is_some}
+use Rattle.std.specs.Prelude.{is_some, IfSome}
 use Rattle.mt_chain.specs.declared.ask.Side.{Side}
 use Rattle.mt_chain.specs.declared.ask.Side.TheVariants.{Old, New}
 use Rattle.mt_chain.specs.declared.ask.Ask.{Ask}
@@ -8,16 +8,22 @@ use Rattle.mt_chain.specs.declared.ask.StoreAsk.{StoreAsk}
 use Rattle.mt_chain.specs.declared.ask.StoreReply.{StoreReply}
 use Rattle.mt_chain.specs.declared.ask.CallFault.{CallFault}
 use Rattle.mt_chain.specs.declared.ask.CallFault.TheVariants as call_fault
-use Rattle.mt_chain.specs.StoreCall.{Contents}
+use Rattle.mt_chain.specs.StoreCall.{Contents, IsContents}
 use Rattle.mt_chain.specs.Store.{Store, Rose, Onward, Same}
-use Rattle.mt_chain.specs.Asks.{Means}
+use Rattle.mt_chain.specs.Asks.{Means, FitsAsk}
 use Rattle.mt_meta.specs.Logical.{Pair}
 use Rattle.mt_meta.specs.Steps.{PairMeans}
+use Rattle.mt_scan.specs.PageSteps.{contents_on}
 use Rattle.mt_meta.proofs.PairLaws.{for_pair as for_told, at_pair as at_told, map_pair as map_told}
 use Rattle.mt_world.specs.Worlds.{WorldState, pair_of, ForPair, Tells}
 use Rattle.mt_world.specs.Turns.{IsSameWorld, CallsOn}
 
 -- ---- one store
+
+-- what is said of the contents that a store tells
+pub some_of : (P : Contents → Type 0) (o : Option Contents) (c : Contents) → o ≡ Some c → IfSome o P → P c
+some_of P None c e h = absurd cc
+some_of P (Some d) c e h = (let same : d ≡ c = cc in subst P same h)
 
 -- where a store tells afterwards it told before
 pub told_before : (P : Contents → Contents → Type 0) (s t : Option Contents) (b : Contents) → t ≡ Some b → Onward P s t → (a : Contents) × (s ≡ Some a) × P a b
@@ -72,6 +78,16 @@ pub record Before (w : WorldState) (ask : StoreAsk) (r : StoreReply) (a' b' : Co
   pub old : w.old_store.told ≡ Some a
   pub new : w.new_store.told ≡ Some b
   pub means : PairMeans ask r (pair_of w a b) (pair_of w a' b')
+  -- the reply is of the kind that was asked for, and the store's rows rise
+  pub fits : FitsAsk ask.ask r
+  pub rises : IsContents (contents_on ask.side (pair_of w a' b'))
+  -- the keys of what each store tells still rise
+  pub contents : IsContents a × IsContents b → IsContents a' × IsContents b'
+
+-- the reply of a call is of the kind that was asked for
+pub call_fits : (s s' t t' : Store) (side : Side) (ask : Ask) (r : StoreReply) → CallsOn side s s' ask (Ok r) t t' → FitsAsk ask r
+call_fits s s' t t' Old ask r h = h.0.shows.1
+call_fits s s' t t' New ask r h = h.0.shows.1
 
 same_told : (s t : Store) (b : Contents) → t ≡ s → t.told ≡ Some b → s.told ≡ Some b
 same_told s t b e h = sym (ap (λ x. x.told) e) ∙ h
@@ -80,10 +96,10 @@ pub before : (w w' : WorldState) (side : Side) (ask : Ask) (r : StoreReply) (a' 
     → CallsOn side w.old_store w.new_store ask (Ok r) w'.old_store w'.new_store → Before w (record { side = side; ask = ask }) r a' b'
 before w w' Old ask r a' b' ea eb h =
     let x = told_before (Means w.old_store.number ask r) w.old_store.told w'.old_store.told a' ea h.0.shows.2 in
-    record { a = x.0; b = b'; old = x.1; new = same_told w.new_store w'.new_store b' h.1 eb; means = (x.2, refl) }
+    record { a = x.0; b = b'; old = x.1; new = same_told w.new_store w'.new_store b' h.1 eb; means = (x.2, refl); fits = h.0.shows.1; rises = some_of IsContents w'.old_store.told a' ea h.0.counted.contents; contents = λ c. (some_of IsContents w'.old_store.told a' ea h.0.counted.contents, c.1) }
 before w w' New ask r a' b' ea eb h =
     let x = told_before (Means w.new_store.number ask r) w.new_store.told w'.new_store.told b' eb h.0.shows.2 in
-    record { a = a'; b = x.0; old = same_told w.old_store w'.old_store a' h.1 ea; new = x.1; means = (x.2, refl) }
+    record { a = a'; b = x.0; old = same_told w.old_store w'.old_store a' h.1 ea; new = x.1; means = (x.2, refl); fits = h.0.shows.1; rises = some_of IsContents w'.new_store.told b' eb h.0.counted.contents; contents = λ c. (c.0, some_of IsContents w'.new_store.told b' eb h.0.counted.contents) }
 
 pub called_tells : (w w' : WorldState) (side : Side) (ask : Ask) (r : StoreReply) → CallsOn side w.old_store w.new_store ask (Ok r) w'.old_store w'.new_store → Tells w' → Tells w
 called_tells w w' Old ask r h tells = record {

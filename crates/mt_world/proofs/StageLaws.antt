@@ -36,7 +36,7 @@ use Rattle.mt_query_plan.specs.Queries as queries
 use Rattle.mt_world.specs.declared.actor.ClientCall.{ClientCall}
 use Rattle.mt_world.specs.declared.actor.ClientCall.TheVariants as client
 use Rattle.mt_world.specs.declared.actor.Actor.{Actor}
-use Rattle.mt_world.specs.declared.actor.Actor.TheVariants.{Client}
+use Rattle.mt_world.specs.declared.actor.Actor.TheVariants.{Client, Migrator, Cleaner}
 use Rattle.mt_world.specs.declared.actor.Answer.TheVariants.{Written, Refused, Rows}
 use Rattle.mt_world.specs.declared.actor.Progress.{Progress}
 use Rattle.mt_world.specs.declared.actor.Progress.TheVariants.{More, Done}
@@ -56,13 +56,13 @@ written_at_write ops place to r tags h = tags_at_write ops place to r tags h
 
 -- ---- room
 
--- where there is room for more there is room for a fault
-room_for_less : (h : Kept) (n : ℕ) → 64 ≤ n → has_room h n ≡ true → has_room h 64 ≡ true
-room_for_less h n least room = go (nat_lt (length h.entries) h.limit) (nat_le (total_weight h.entries + n) (2 ^ 30)) refl room where
-  go : (a b : Bool) → nat_le (total_weight h.entries + n) (2 ^ 30) ≡ b → a && b ≡ true → a && nat_le (total_weight h.entries + 64) (2 ^ 30) ≡ true
+-- where there is room for more there is room for less
+pub room_for_less : (h : Kept) (n m : ℕ) → m ≤ n → has_room h n ≡ true → has_room h m ≡ true
+room_for_less h n m least room = go (nat_lt (length h.entries) h.limit) (nat_le (total_weight h.entries + n) (2 ^ 30)) refl room where
+  go : (a b : Bool) → nat_le (total_weight h.entries + n) (2 ^ 30) ≡ b → a && b ≡ true → a && nat_le (total_weight h.entries + m) (2 ^ 30) ≡ true
   go false b e x = x
   go true false e x = absurd cc
-  go true true e x = (let le : nat_le (total_weight h.entries + 64) (2 ^ 30) ≡ true = grind (arith, nat_tests) in le)
+  go true true e x = (let le : nat_le (total_weight h.entries + m) (2 ^ 30) ≡ true = grind (arith, nat_tests) in le)
 
 -- a weight above the limit is none for which there is room, whatever it is counted as
 pub room_capped : (h : Kept) (n : ℕ) → has_room h (min (2 ^ 64 - 1) n) ≡ has_room h n
@@ -74,7 +74,10 @@ room_capped h n = ap (λ b. nat_lt (length h.entries) h.limit && b) same where
 least_need : (a : Actor) → CanStep a → 64 ≤ need_of a
 least_need (Client (client.Batch call)) can = omega arith
 least_need (Client (client.Query call)) can = omega arith
+least_need (Client (client.Page call)) can = omega arith
 least_need (Client client.Ended) can = absurd can
+least_need (Migrator state) can = omega arith
+least_need (Cleaner state) can = omega arith
 
 -- ---- answers
 
@@ -98,7 +101,7 @@ adds_none l l' caller h = record {
   limit = ap (λ k. k.limit) h.history;
 }
 
-reserves_self : (l : Log) → Reserves l l
+pub reserves_self : (l : Log) → Reserves l l
 reserves_self l = record { history = refl; numbers = λ other. refl; fault_entries = refl }
 
 -- memory was taken, and then an entry came, or none
@@ -118,6 +121,10 @@ adds_after l k l' caller entry r a = record {
   first = a.first ∙ ap (λ h. h.first) r.history;
   limit = a.limit ∙ ap (λ h. h.limit) r.history;
 }
+
+-- an actor that leaves no entry
+pub silent : (a a' : Actor) (answer : StoreReply) (l : Log) (caller : ℕ) (r : Result Progress TurnFault) → GoesOn a answer r None a' → Answered a answer l caller r l a'
+silent a a' answer l caller r goes = record { entry = None; goes = goes; adds = adds_none l l caller (reserves_self l) }
 
 -- an actor that has no memory for what may be lost
 pub forgotten : (a a' : Actor) (r : StoreReply) (l : Log) (caller : ℕ) → MayBeLost (Ok r) → a' ≡ after_fault a → Answered a r l caller (Err NoMemory) l a'
@@ -224,7 +231,7 @@ room_then l k n r room = ap (λ h. has_room h n) r.history ∙ room
 
 -- there is room for the entry of a fault, and for that of an answer
 pub fault_room : (c : Stage) (a : Actor) (ask : StoreAsk) (l : Log) → CanStep a → IsPrepared c a ask l → has_room l.history 64 ≡ true
-fault_room c a ask l can p = room_for_less l.history (need_of a) (least_need a can) (room_then c.log l (need_of a) p.reserves p.room)
+fault_room c a ask l can p = room_for_less l.history (need_of a) 64 (least_need a can) (room_then c.log l (need_of a) p.reserves p.room)
 
 pub answer_room : (c : Stage) (a : Actor) (ask : StoreAsk) (l l' : Log) → IsPrepared c a ask l → l' ≡ l → has_room l'.history (need_of a) ≡ true
 answer_room c a ask l l' p same = ap (λ (k : Log). has_room k.history (need_of a)) same ∙ room_then c.log l (need_of a) p.reserves p.room

@@ -10,11 +10,13 @@ use Rattle.mt_chain.specs.declared.ask.StoreReply.{StoreReply}
 use Rattle.mt_chain.specs.declared.ask.CallFault.{CallFault}
 use Rattle.mt_chain.specs.declared.ask.CallFault.TheVariants as call_fault
 use Rattle.mt_chain.specs.Rows.{are_rising}
-use Rattle.mt_chain.specs.StoreCall.{Contents}
+use Rattle.mt_chain.specs.StoreCall.{Contents, IsContents}
+use Rattle.mt_chain.specs.Asks.{FitsAsk}
 use Rattle.mt_chain.specs.Store.{Store, Rose, Same}
 use Rattle.mt_chain.specs.Table.{rows_of}
 use Rattle.mt_history.specs.Kept.{has_room}
 use Rattle.mt_history.specs.Replies.{Replies, refusal_reply}
+use Rattle.mt_history.specs.Legal.{IsTrueAtEnd}
 use Rattle.mt_meta.specs.Logical.{Pair}
 use Rattle.mt_meta.specs.Sound.{IsSound}
 use Rattle.mt_meta.specs.declared.fact.Fact.{Fact}
@@ -32,19 +34,27 @@ use Rattle.mt_query_plan.specs.declared.call.QueryProgress.TheVariants as query
 use Rattle.mt_query_plan.specs.Queries as queries
 use Rattle.mt_query_plan.specs.QuerySteps as query_steps
 use Rattle.mt_query_plan.proofs.QueryLaw.{query_law}
+use Rattle.mt_scan.specs.PageSteps.{contents_on}
+use Rattle.mt_migrate.specs.declared.migrator.MoveProgress.{MoveProgress}
+use Rattle.mt_migrate.specs.declared.migrator.MoveProgress.TheVariants as move
+use Rattle.mt_clean.specs.declared.cleaner.CleanProgress.{CleanProgress}
+use Rattle.mt_clean.specs.declared.cleaner.CleanProgress.TheVariants as clean
 use Rattle.mt_world.specs.declared.actor.ClientCall.TheVariants as client
 use Rattle.mt_world.specs.declared.actor.Actor.{Actor}
-use Rattle.mt_world.specs.declared.actor.Actor.TheVariants.{Client}
+use Rattle.mt_world.specs.declared.actor.Actor.TheVariants.{Client, Migrator, Cleaner}
 use Rattle.mt_world.specs.declared.actor.Progress.{Progress}
 use Rattle.mt_world.specs.declared.actor.TurnFault.{TurnFault}
 use Rattle.mt_world.specs.declared.actor.TurnFault.TheVariants.{StoreFault, HistoryFull, NoMemory}
-use Rattle.mt_world.specs.Worlds.{WorldState, pair_of, ForPair, Tells, IsTrueOf, AreTrueOf, KeepsApart, table_now, next_number, number_due, faults_in, entry_of, IsReplayed, AreCounted, IsWorld}
-use Rattle.mt_world.specs.Moves.{NewEntry, Move, BatchMoves, batch_move, QueryMoves, query_move, ActorFits, ActorAsks, ActorMoves, actor_facts, need_of, after_fault, fault_entry, retired_by}
+use Rattle.mt_world.specs.Worlds.{WorldState, pair_of, ForPair, Tells, IsTrueOf, AreTrueOf, KeepsApart, window_of, table_now, next_number, number_due, faults_in, entry_of, IsReplayed, AreCounted, IsWorld}
+use Rattle.mt_world.specs.Moves.{NewEntry, Move, BatchMoves, batch_move, QueryMoves, query_move, ActorFits, ActorAsks, ActorMoves, actor_facts, need_of, after_fault, fault_entry, retired_by, migrator_move, cleaner_move, retired_where}
 use Rattle.mt_world.specs.Logs.{raised, Adds, faults_after}
-use Rattle.mt_world.specs.Turns.{Stage, log_of, stage_of, CallsOn, OneCall, NoCall, CalledInVain, Moves, IsCalledOn, RiseTogether, TakesTurn, TakesSomeTurn, RepliesAt, Knows, IsSameWorld, Turns, Turned}
+use Rattle.mt_world.specs.Turns.{Stage, log_of, stage_of, CallsOn, OneCall, NoCall, CalledInVain, Moves, IsCalledOn, RiseTogether, TakesTurn, TakesSomeTurn, RepliesAt, SaysAt, Knows, IsSameWorld, Turns, Turned}
 use Rattle.mt_world.proofs.PairLaws.{told_before, for_pair, at_pair, same_pair, IsQuiet, quiet_tells, Before, before, called_tells, failed_quiet, failed_rose, IsCalled, called, not_called, stays_same}
 use Rattle.mt_world.proofs.LogLaws.{due_step, counted_with, room_few}
-use Rattle.mt_world.proofs.EntryLaws.{EntryDoes, replay_on, replies_same, counts_on, counts_rise}
+use Rattle.mt_world.proofs.PageSteps.{page_step, page_no_fault, page_not_retired}
+use Rattle.mt_world.proofs.EntryLaws.{EntryDoes, replay_on, replies_same, says_true, counts_on, counts_rise}
+use Rattle.mt_world.proofs.MigratorLaws.{migrator_step}
+use Rattle.mt_world.proofs.CleanerLaws.{cleaner_step}
 
 -- ---- the step of each actor, by the law of its machine
 
@@ -124,21 +134,30 @@ query_step call ask answer move p q retired asks means moves sound knows = subst
   }
 
 -- each kind of actor has its line here
-pub actor_step : (a : Actor) (ask : StoreAsk) (answer : StoreReply) (move : Move) (p q : Pair) (retired : Bool) → ActorFits a → ActorAsks a ask → PairMeans ask answer p q → ActorMoves a answer move
-    → IsSound p → AllHold p retired (actor_facts a) → ActorSteps a retired move p q
-actor_step (Client (client.Batch call)) ask answer move p q retired fits asks means moves sound knows = batch_step call ask answer move p q retired fits asks means moves sound knows
-actor_step (Client (client.Query call)) ask answer move p q retired fits asks means moves sound knows = query_step call ask answer move p q retired asks means moves sound knows
-actor_step (Client client.Ended) ask answer move p q retired fits asks means moves sound knows = absurd asks
+pub actor_step : (a : Actor) (ask : StoreAsk) (answer : StoreReply) (move : Move) (p q : Pair) (retired : Bool) → FitsAsk ask.ask answer → IsContents (contents_on ask.side q) → ActorFits a → ActorAsks a ask → PairMeans ask answer p q → ActorMoves a answer move
+    → p.old_number < p.new_number → IsContents p.old × IsContents p.new → IsSound p → AllHold p retired (actor_facts a) → ActorSteps a retired move p q
+actor_step (Client (client.Batch call)) ask answer move p q retired fit rises fits asks means moves below contents sound knows = batch_step call ask answer move p q retired fits asks means moves sound knows
+actor_step (Client (client.Query call)) ask answer move p q retired fit rises fits asks means moves below contents sound knows = query_step call ask answer move p q retired asks means moves sound knows
+actor_step (Client (client.Page call)) ask answer move p q retired fit rises fits asks means moves below contents sound knows = page_step call ask answer move p q retired fit rises fits asks means moves sound knows
+actor_step (Client client.Ended) ask answer move p q retired fit rises fits asks means moves below contents sound knows = absurd asks
+actor_step (Migrator state) ask answer move p q retired fit rises fits asks means moves below contents sound knows = migrator_step state ask answer move p q retired fits below contents asks means moves sound knows
+actor_step (Cleaner state) ask answer move p q retired fit rises fits asks means moves below contents sound knows = cleaner_step state ask answer move p q retired fits contents asks means moves sound knows
 
 -- a turn that comes to nothing leaves an actor that knows nothing more than before, and the world as retired as it was
 fault_knows : (a : Actor) (p : Pair) (retired : Bool) → AllHold p retired (actor_facts a) → AllHold p retired (actor_facts (after_fault a))
 fault_knows (Client call) p retired knows = tt
+fault_knows (Migrator state) p retired knows = knows
+fault_knows (Cleaner state) p retired knows = knows
 
 fault_apart : (a : Actor) (f : Fact) → ApartFrom f (actor_facts a) → ApartFrom f (actor_facts (after_fault a))
 fault_apart (Client call) f apart = tt
+fault_apart (Migrator state) f apart = apart
+fault_apart (Cleaner state) f apart = apart
 
 fault_retired : (a : Actor) (fault : TurnFault) (retired : Bool) → retired_by a (Err fault) retired ≡ retired
 fault_retired (Client call) fault retired = refl
+fault_retired (Migrator state) fault retired = refl
+fault_retired (Cleaner state) fault retired = refl
 
 -- ---- what all turns keep
 
@@ -256,12 +275,18 @@ pub record KeptAndTurned (w : WorldState) (caller : ℕ) (a : Actor) (r : Result
 
 -- what is known of two told pairs, before the turn and after it
 pub record ToldStep (w w' : WorldState) (a a' : Actor) (entry : Option NewEntry) (p q : Pair) : Type 0 where
+  pub below : p.old_number < p.new_number
   pub replayed : IsReplayed w p
+  pub contents : IsContents q.old × IsContents q.new
   pub step : ActorStep (actor_facts a) (actor_facts a') w.retired w'.retired (EntryDoes entry) p q
 
 reply_at : (w : WorldState) (entry : Option NewEntry) (w' : WorldState) → ((e : NewEntry) → entry ≡ Some e → ForPair w' (λ p. Replies e.what (table_now w) e.reply)) → RepliesAt w entry w'
 reply_at w None w' h = tt
 reply_at w (Some e) w' h = h e refl
+
+says_at : (w : WorldState) (entry : Option NewEntry) (w' : WorldState) → ((e : NewEntry) → entry ≡ Some e → ForPair w' (λ p. IsTrueAtEnd (window_of w) e.what)) → SaysAt w entry w'
+says_at w None w' h = tt
+says_at w (Some e) w' h = h e refl
 
 stepped_turn : (w w' : WorldState) (caller : ℕ) (a a' : Actor) (r : Result Progress TurnFault) (entry : Option NewEntry) → IsWorld w → IsFramed w a r w' → (Tells w' → Tells w) → AreCounted w'
     → TakesTurn (stage_of w) caller a r entry (stage_of w') a'
@@ -279,6 +304,7 @@ stepped_turn w w' caller a a' r entry world frame tells counted takes steps = re
     calls = rises (stage_of w) (stage_of w') a a' r entry takes.moves;
     adds = takes.adds;
     replies = reply_at w entry w' replies;
+    says = says_at w entry w' says;
     knows = by_step (λ p. AreTrueOf w' p (actor_facts a')) (λ p q t. t.step.knows);
     keeps = keeps;
   };
@@ -292,10 +318,13 @@ stepped_turn w w' caller a a' r entry world frame tells counted takes steps = re
   replayed : ForPair w' (IsReplayed w')
   replayed = for_pair w' (IsReplayed w') (λ a1 b1 ea eb. (let s = steps a1 b1 ea eb in let t = s.4 in subst (IsReplayed w') (sym (same_pair w w' same a1 b1))
       (replay_on w w' caller (actor_facts a) (actor_facts a') (pair_of w s.0 s.1) (pair_of w a1 b1) entry takes.adds.entries t.replayed
-      (record { same = same; below = stores_below w world; due = world.due world.whole; step = t.step }))))
+      (record { same = same; below = stores_below w world; due = world.due world.whole; contents = t.contents; step = t.step }))))
 
   replies : (e : NewEntry) → entry ≡ Some e → ForPair w' (λ p. Replies e.what (table_now w) e.reply)
   replies e is = by_step (λ p. Replies e.what (table_now w) e.reply) (λ p q t. (let d = subst (λ x. EntryDoes x p q) is t.step.does in replies_same e.what (logical_table p) (table_now w) e.reply t.replayed.table d.1))
+
+  says : (e : NewEntry) → entry ≡ Some e → ForPair w' (λ p. IsTrueAtEnd (window_of w) e.what)
+  says e is = by_step (λ p. IsTrueAtEnd (window_of w) e.what) (λ p q t. (let d = subst (λ x. EntryDoes x p q) is t.step.does in says_true w e.what p q t.below t.replayed d.0))
 
   keeps : KeepsApart w (actor_facts a) w' (actor_facts a')
   keeps f stands = for_pair w' (λ p. IsTrueOf w' p f × ApartFrom f (actor_facts a')) (λ a1 b1 ea eb. (let s = steps a1 b1 ea eb in let t = s.4 in
@@ -305,9 +334,11 @@ stepped_turn w w' caller a a' r entry world frame tells counted takes steps = re
 -- ---- turns that leave what the stores hold
 
 -- a step of an actor that came to nothing, or to the entry of a fault
-quiet_step : (w w' : WorldState) (a : Actor) (entry : Option NewEntry) (p : Pair) → IsReplayed w p → AllHold p w.retired (actor_facts a) → w'.retired ≡ w.retired → EntryDoes entry p p → ToldStep w w' a (after_fault a) entry p p
-quiet_step w w' a entry p h knows same does = record {
+quiet_step : (w w' : WorldState) (a : Actor) (entry : Option NewEntry) (p : Pair) → p.old_number < p.new_number → IsReplayed w p → AllHold p w.retired (actor_facts a) → w'.retired ≡ w.retired → EntryDoes entry p p → ToldStep w w' a (after_fault a) entry p p
+quiet_step w w' a entry p below h knows same does = record {
+  below = below;
   replayed = h;
+  contents = h.contents;
   step = record {
     sound = h.sound;
     grows = grows_self (actor_facts a) p h.sound;
@@ -329,7 +360,7 @@ quiet_steps w w' a entry world knows same quiet does a1 b1 ea eb =
       x.1,
       y.1,
       subst (λ c. ToldStep w w' a (after_fault a) entry (pair_of w x.0 y.0) (pair_of w c b1)) (sym x.2) (subst (λ c. ToldStep w w' a (after_fault a) entry (pair_of w x.0 y.0) (pair_of w x.0 c)) (sym y.2)
-          (quiet_step w w' a entry (pair_of w x.0 y.0) (at_pair w (IsReplayed w) x.0 y.0 x.1 y.1 world.replayed) (at_pair w (λ p. AreTrueOf w p (actor_facts a)) x.0 y.0 x.1 y.1 knows) same (does (pair_of w x.0 y.0)))),
+          (quiet_step w w' a entry (pair_of w x.0 y.0) (stores_below w world) (at_pair w (IsReplayed w) x.0 y.0 x.1 y.1 world.replayed) (at_pair w (λ p. AreTrueOf w p (actor_facts a)) x.0 y.0 x.1 y.1 knows) same (does (pair_of w x.0 y.0)))),
     )
 
 -- a turn that comes to nothing
@@ -389,7 +420,18 @@ no_fault (Client (client.Query call)) a' answer progress entry count moves = ap 
   by : (said : QueryProgress) → faults_after (query_move moves.to said).entry count ≡ count
   by query.More = refl
   by (query.Rows rows) = refl
+no_fault (Client (client.Page call)) a' answer progress entry count moves = ap (λ (m : Move). faults_after m.entry count) moves.is ∙ page_no_fault moves.to moves.filter moves.rows moves.said count
 no_fault (Client client.Ended) a' answer progress entry count moves = absurd moves
+no_fault (Migrator state) a' answer progress entry count moves = ap (λ (m : Move). faults_after m.entry count) moves.is ∙ by moves.said where
+  by : (said : MoveProgress) → faults_after (migrator_move moves.to said).entry count ≡ count
+  by move.More = refl
+  by move.Done = refl
+no_fault (Cleaner state) a' answer progress entry count moves = ap (λ (m : Move). faults_after m.entry count) moves.is ∙ by moves.said where
+  by : (said : CleanProgress) → faults_after (cleaner_move moves.to said).entry count ≡ count
+  by clean.More = refl
+  by clean.Done = refl
+  by clean.NotSealed = refl
+  by (clean.NotMigrated pk) = refl
 
 ok_turn : (w w' : WorldState) (caller : ℕ) (a a' : Actor) (progress : Progress) (entry : Option NewEntry) → IsWorld w → Knows w a → IsFramed w a (Ok progress) w' → TakesTurn (stage_of w) caller a (Ok progress) entry (stage_of w') a' → KeptAndTurned w caller a (Ok progress) entry w' a'
 ok_turn w w' caller a a' progress entry world knows frame takes =
@@ -407,9 +449,11 @@ ok_turn w w' caller a a' progress entry world knows frame takes =
             k.old,
             k.new,
             record {
+              below = stores_below w world;
               replayed = h;
+              contents = k.contents h.contents;
               step = subst (λ r. ActorStep (actor_facts a) (actor_facts a') w.retired r (EntryDoes entry) (pair_of w k.a k.b) (pair_of w a1 b1)) (sym frame.retired)
-                  (actor_step a ask answer (record { progress = progress; entry = entry; after = a' }) (pair_of w k.a k.b) (pair_of w a1 b1) w.retired takes.fits asks k.means moves h.sound knows_of);
+                  (actor_step a ask answer (record { progress = progress; entry = entry; after = a' }) (pair_of w k.a k.b) (pair_of w a1 b1) w.retired k.fits k.rises takes.fits asks k.means moves (stores_below w world) h.contents h.sound knows_of);
             },
           )
 
@@ -435,15 +479,34 @@ world_of c base generation retired opened_faults = record {
   opened_faults = opened_faults;
 }
 
--- while clients alone take turns, what the code leaves alone is whether the world is retired, too
-client_retired : (a : Actor) (r : Result Progress TurnFault) (retired : Bool) → retired ≡ retired_by a r retired
-client_retired (Client call) r retired = refl
+-- only a cleaner's turn is answered that it is done with cleaning
+answered_retired : (a a' : Actor) (answer : StoreReply) (progress : Progress) (entry : Option NewEntry) (retired : Bool) → ActorMoves a answer (record { progress = progress; entry = entry; after = a' }) → retired_where (Ok progress) retired ≡ retired_by a (Ok progress) retired
+answered_retired (Client (client.Batch call)) a' answer progress entry retired moves = ap (λ (m : Move). retired_where (Ok m.progress) retired) moves.is ∙ by moves.said where
+  by : (said : BatchProgress) → retired_where (Ok (batch_move moves.to said).progress) retired ≡ retired
+  by batch.More = refl
+  by (batch.Written tags) = refl
+  by (batch.Refused refusal) = refl
+answered_retired (Client (client.Query call)) a' answer progress entry retired moves = ap (λ (m : Move). retired_where (Ok m.progress) retired) moves.is ∙ by moves.said where
+  by : (said : QueryProgress) → retired_where (Ok (query_move moves.to said).progress) retired ≡ retired
+  by query.More = refl
+  by (query.Rows rows) = refl
+answered_retired (Client (client.Page call)) a' answer progress entry retired moves = ap (λ (m : Move). retired_where (Ok m.progress) retired) moves.is ∙ page_not_retired moves.to moves.filter moves.rows moves.said retired
+answered_retired (Client client.Ended) a' answer progress entry retired moves = absurd moves
+answered_retired (Migrator state) a' answer progress entry retired moves = ap (λ (m : Move). retired_where (Ok m.progress) retired) moves.is ∙ by moves.said where
+  by : (said : MoveProgress) → retired_where (Ok (migrator_move moves.to said).progress) retired ≡ retired
+  by move.More = refl
+  by move.Done = refl
+answered_retired (Cleaner state) a' answer progress entry retired moves = refl
 
-pub turn_at : (v : WorldState) (c c' : Stage) (base : List Entity) (generation : ℕ) (retired : Bool) (opened_faults : ℕ) (caller : ℕ) (a a' : Actor) (r : Result Progress TurnFault)
-    → world_of c base generation retired opened_faults ≡ v → IsWorld (world_of c base generation retired opened_faults) → Knows v a → TakesSomeTurn c caller a r c' a'
-    → IsWorld (world_of c' base generation retired opened_faults) × Turned v caller a r (world_of c' base generation retired opened_faults) a'
-turn_at v c c' base generation retired opened_faults caller a a' r view world knows takes =
+pub turn_retired : (c c' : Stage) (a a' : Actor) (r : Result Progress TurnFault) (entry : Option NewEntry) (retired : Bool) → Moves c a r entry c' a' → retired_where r retired ≡ retired_by a r retired
+turn_retired c c' a a' (Ok progress) entry retired m = answered_retired a a' m.1 progress entry retired m.4
+turn_retired c c' a a' (Err fault) entry retired m = sym (fault_retired a fault retired)
+
+pub turn_at : (v : WorldState) (c c' : Stage) (base : List Entity) (generation : ℕ) (retired now : Bool) (opened_faults : ℕ) (caller : ℕ) (a a' : Actor) (r : Result Progress TurnFault)
+    → world_of c base generation retired opened_faults ≡ v → IsWorld (world_of c base generation retired opened_faults) → Knows v a → TakesSomeTurn c caller a r c' a' → now ≡ retired_where r retired
+    → IsWorld (world_of c' base generation now opened_faults) × Turned v caller a r (world_of c' base generation now opened_faults) a'
+turn_at v c c' base generation retired now opened_faults caller a a' r view world knows takes so =
     let w = world_of c base generation retired opened_faults in
-    let w' = world_of c' base generation retired opened_faults in
-    let t = turned w w' caller a a' r takes.0 world (subst (λ x. Knows x a) (sym view) knows) (record { base = refl; generation = refl; retired = client_retired a r retired; opened_faults = refl }) takes.1 in
+    let w' = world_of c' base generation now opened_faults in
+    let t = turned w w' caller a a' r takes.0 world (subst (λ x. Knows x a) (sym view) knows) (record { base = refl; generation = refl; retired = so ∙ turn_retired c c' a a' r takes.0 retired takes.1.moves; opened_faults = refl }) takes.1 in
     (t.world, (takes.0, subst (λ x. Turns x caller a r takes.0 w' a') view t.turns))

@@ -4,5 +4,8 @@ pub mod Logs
 pub mod Turns
 pub mod Steps
 pub mod WholeCalls
+pub mod PageCalls
+pub mod OpenPages
+pub mod Sealing
 pub mod Opening
 pub mod Replays

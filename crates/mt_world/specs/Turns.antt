@@ -12,11 +12,12 @@ use Rattle.mt_chain.specs.Store.{Store, Rose, Onward, Same}
 use Rattle.mt_chain.specs.Asks.{Calls}
 use Rattle.mt_history.specs.Kept.{has_room}
 use Rattle.mt_history.specs.Replies.{Replies}
+use Rattle.mt_history.specs.Legal.{IsTrueAtEnd}
 use Rattle.mt_world.specs.declared.actor.Actor.{Actor}
 use Rattle.mt_world.specs.declared.actor.Progress.{Progress}
 use Rattle.mt_world.specs.declared.actor.TurnFault.{TurnFault}
 use Rattle.mt_world.specs.declared.actor.TurnFault.TheVariants.{StoreFault, HistoryFull, NoMemory}
-use Rattle.mt_world.specs.Worlds.{WorldState, ForPair, Tells, AreTrueOf, KeepsApart, table_now}
+use Rattle.mt_world.specs.Worlds.{WorldState, ForPair, Tells, AreTrueOf, KeepsApart, window_of, table_now}
 use Rattle.mt_world.specs.Logs.{Log, raised, Adds}
 use Rattle.mt_world.specs.Moves.{NewEntry, ActorFits, ActorAsks, ActorMoves, actor_facts, need_of, after_fault, fault_entry, retired_by}
 
@@ -121,6 +122,11 @@ abbrev pub RepliesAt : WorldState → Option NewEntry → WorldState → Type 0
 RepliesAt w None w' = Unit {0}
 RepliesAt w (Some e) w' = ForPair w' (λ p. Replies e.what (table_now w) e.reply)
 
+-- what the entry says is true there
+abbrev pub SaysAt : WorldState → Option NewEntry → WorldState → Type 0
+SaysAt w None w' = Unit {0}
+SaysAt w (Some e) w' = ForPair w' (λ p. IsTrueAtEnd (window_of w) e.what)
+
 -- ---- a turn
 
 -- what no turn changes
@@ -147,6 +153,7 @@ pub record Turns (w : WorldState) (caller : ℕ) (a : Actor) (r : Result Progres
   -- at most one entry, of this caller
   pub adds : Adds (log_of w) caller entry (log_of w')
   pub replies : RepliesAt w entry w'
+  pub says : SaysAt w entry w'
   pub knows : Knows w' a'
   pub keeps : KeepsApart w (actor_facts a) w' (actor_facts a')
 

@@ -1,12 +1,12 @@
 -- A world as contracts see it: two stores, the table at their opening, and the history since.
-use Rattle.std.specs.Prelude.{◌≡◌, ◌⊎◌, ℕ, ◌+◌, ◌-◌, ◌^◌, ◌≤◌, Bool, true, false, All, IsTrue, is_some, List, filter, length, Option, Some, None}
+use Rattle.std.specs.Prelude.{◌≡◌, ◌⊎◌, ℕ, ◌+◌, ◌-◌, ◌^◌, ◌≤◌, Bool, true, false, All, IsTrue, is_some, List, [], ◌∷◌, filter, length, Option, Some, None}
 use Rattle.std.specs.List.{last_or}
 use Rattle.std.specs.Map.{lookup, count_at}
 use Rattle.std.specs.Ordering.{nat_cmp, is_eq}
 use Rattle.mt_model.specs.declared.entity.Entity.{Entity}
 use Rattle.mt_model.specs.declared.tag.Tag.{Tag}
 use Rattle.mt_chain.specs.Rows.{are_rising}
-use Rattle.mt_chain.specs.StoreCall.{Contents}
+use Rattle.mt_chain.specs.StoreCall.{Contents, IsContents}
 use Rattle.mt_chain.specs.Store.{Store}
 use Rattle.mt_chain.specs.Table.{Table, IsSameTable, table_of, rows_of}
 use Rattle.mt_history.specs.declared.entry.What.{What}
@@ -74,6 +74,11 @@ StandsBeside w own f = ForPair w (λ p. IsTrueOf w p f × ApartFrom f own)
 abbrev pub KeepsApart : WorldState → List Fact → WorldState → List Fact → Type 0
 KeepsApart w own w' own' = (f : Fact) → StandsBeside w own f → StandsBeside w' own' f
 
+-- each of these facts is true and apart from the actor's own
+abbrev pub AllStandBeside : WorldState → List Fact → List Fact → Type 0
+AllStandBeside w own [] = Unit {0}
+AllStandBeside w own (f ∷ fs) = StandsBeside w own f × AllStandBeside w own fs
+
 -- ---- the history
 
 -- the history as a window, with the table at opening before it
@@ -121,6 +126,8 @@ faults_in entries = length (filter (λ e. is_fault e.what) entries)
 -- over two stores that tell: the pair is sound, the history is legal, and what it makes of the table at opening is what the two stores show
 pub record IsReplayed (w : WorldState) (p : Pair) : Type 0 where
   pub sound : IsSound p
+  -- the keys of what each store tells rise
+  pub contents : IsContents p.old × IsContents p.new
   pub legal : IsLegal (window_of w)
   pub table : IsSameTable (logical_table p) (table_now w)
   -- each tag that the table or the history has was given by a store

@@ -2,13 +2,16 @@
 #![tactic(auto)]
 
 mod actor;
+mod cleaning;
 mod log;
+mod moving;
 mod opening;
+mod page;
 mod query;
 mod replay;
 mod stage;
 mod world;
 
-pub use actor::{Actor, Answer, ClientCall, Progress, Request, TurnFault};
+pub use actor::{Actor, Answer, ClientCall, Progress, Request, Stepped, TurnFault};
 pub use opening::NotOpened;
 pub use world::{Stores, World};

@@ -6,18 +6,25 @@ ghost use Rattle.mt_world.specs.Logs.{IsReady, Reserves};
 ghost use Rattle.mt_world.specs.Moves.{CanStep};
 ghost use Rattle.mt_world.specs.Turns.{CallsOn, TakesSomeTurn};
 ghost use Rattle.mt_world.specs.Steps.{CallsStore, Answered, said_by, left_by};
+ghost use Rattle.mt_scan.specs.Pages.{is_over};
+ghost use Rattle.mt_migrate.specs.declared.state.State.TheVariants as at;
+ghost use Rattle.mt_world.specs.Sealing.{seal_said, seal_left};
 ghost use Rattle.mt_chain.specs.Batch.{batch_weight};
 ghost use Rattle.mt_history.specs.Kept.{has_room};
+ghost use Rattle.mt_history.specs.Weight.{need_of_move};
 ghost use Rattle.mt_chain.specs.declared.ask.StoreAsk.{StoreAsk};
 
 use crate::actor::{Actor, Answer, ClientCall, Progress, TurnFault};
 use crate::log::Log;
-use crate::query;
+use crate::{cleaning, moving, page, query};
 use mt_batch_plan::{BatchCall, BatchProgress};
-use mt_chain::{CallFault, Keeper, Side, StoreAsk, StoreReply, Tags};
-use mt_history::What;
+use mt_chain::{Ask, CallFault, Keeper, Side, StoreAsk, StoreReply, Tags};
+use mt_clean::Cleaner;
+use mt_history::{MOVE_NEED, What};
+use mt_migrate::Migrator;
 use mt_model::{NoMemory, Tag};
 use mt_query_plan::QueryCall;
+use mt_scan::PageCall;
 use std::alloc::Global;
 use std::marker::Model;
 use std::mem;
@@ -212,25 +219,105 @@ impl<K: Keeper> Stage<K> {
         query::answer(alloc, &mut self.log, caller, call, reply)
     }
 
+    /// One turn of a page.
+    fn page_turn(&mut self, alloc: Global, caller: u32, call: PageCall) -> Result<Step, TurnFault>
+        requires { is_over call ≡ false }
+        ensures { TakesSomeTurn self.old caller (Actor.Client (ClientCall.Page call)) (said_by result) self.new (left_by result) }
+    {
+        let need = call.need();
+        if !self.log.history().room_for(need) {
+            return Err(TurnFault::HistoryFull);
+        }
+        let Ok(ask) = page::prepare(alloc, &mut self.log, caller, &call) else {
+            return Err(TurnFault::NoMemory);
+        };
+        let reply = self.ask_store(alloc, caller, ask)?;
+        page::answer(alloc, &mut self.log, caller, call, reply)
+    }
+
     /// One turn of a client's call.
-    fn client_turn(
-        &mut self,
-        alloc: Global,
-        caller: u32,
-        call: ClientCall,
-    ) -> Result<Step, TurnFault>
+    fn call_turn(&mut self, alloc: Global, caller: u32, call: ClientCall) -> Result<Step, TurnFault>
         requires { CanStep (Actor.Client call) }
         ensures { TakesSomeTurn self.old caller (Actor.Client call) (said_by result) self.new (left_by result) }
     {
         match call {
             ClientCall::Batch(call) => self.batch_turn(alloc, caller, call),
             ClientCall::Query(call) => self.query_turn(alloc, caller, call),
+            ClientCall::Page(call) => self.page_turn(alloc, caller, call),
             ClientCall::Ended => unreachable!(),
         }
     }
 
-    /// One turn of an actor: at most one store call, and then at most one entry. An answer or a fault
-    /// ends a client's call.
+    /// One turn of a client, whose call ends with an answer or a fault.
+    fn client_turn(
+        &mut self,
+        alloc: Global,
+        caller: u32,
+        slot: &mut ClientCall,
+    ) -> Result<Progress, TurnFault>
+        requires { CanStep (Actor.Client slot.old) }
+        ensures { TakesSomeTurn self.old caller (Actor.Client slot.old) result self.new (Actor.Client slot.new) }
+    {
+        let call = mem::replace(slot, ClientCall::Ended);
+        let (progress, after) = self.call_turn(alloc, caller, call)?;
+        *slot = after;
+        Ok(progress)
+    }
+
+    /// Whether the history has room for the entry of a failed call.
+    fn has_move_room(&self) -> bool
+        ensures { result ≡ has_room self.now.log.history need_of_move }
+    {
+        self.log.history().room_for(MOVE_NEED)
+    }
+
+    /// One turn of a migrator, which stays where it is after a fault.
+    fn migrator_turn(
+        &mut self,
+        alloc: Global,
+        caller: u32,
+        migrator: &mut Migrator,
+    ) -> Result<Progress, TurnFault>
+        requires { CanStep (Actor.Migrator migrator.old) }
+        ensures { TakesSomeTurn self.old caller (Actor.Migrator migrator.old) result self.new (Actor.Migrator migrator.new) }
+    {
+        if migrator.is_done() {
+            unreachable!();
+        }
+        if !self.has_move_room() {
+            return Err(TurnFault::HistoryFull);
+        }
+        let Ok(ask) = moving::prepare(alloc, &mut self.log, caller, migrator) else {
+            return Err(TurnFault::NoMemory);
+        };
+        let reply = self.ask_store(alloc, caller, ask)?;
+        moving::answer(alloc, migrator, reply)
+    }
+
+    /// One turn of a cleaner, which stays where it is after a fault.
+    fn cleaner_turn(
+        &mut self,
+        alloc: Global,
+        caller: u32,
+        cleaner: &mut Cleaner,
+    ) -> Result<Progress, TurnFault>
+        requires { CanStep (Actor.Cleaner cleaner.old) }
+        ensures { TakesSomeTurn self.old caller (Actor.Cleaner cleaner.old) result self.new (Actor.Cleaner cleaner.new) }
+    {
+        if cleaner.is_done() {
+            unreachable!();
+        }
+        if !self.has_move_room() {
+            return Err(TurnFault::HistoryFull);
+        }
+        let Ok(ask) = cleaning::prepare(alloc, &mut self.log, caller, cleaner) else {
+            return Err(TurnFault::NoMemory);
+        };
+        let reply = self.ask_store(alloc, caller, ask)?;
+        cleaning::answer(alloc, cleaner, reply)
+    }
+
+    /// One turn of an actor: at most one store call, and then at most one entry.
     pub fn turn(
         &mut self,
         alloc: Global,
@@ -240,10 +327,28 @@ impl<K: Keeper> Stage<K> {
         requires { CanStep actor.old }
         ensures { TakesSomeTurn self.old caller actor.old result self.new actor.new }
     {
-        let Actor::Client(slot) = actor;
-        let call = mem::replace(slot, ClientCall::Ended);
-        let (progress, after) = self.client_turn(alloc, caller, call)?;
-        *slot = after;
-        Ok(progress)
+        match actor {
+            Actor::Client(slot) => self.client_turn(alloc, caller, slot),
+            Actor::Migrator(migrator) => self.migrator_turn(alloc, caller, migrator),
+            Actor::Cleaner(cleaner) => self.cleaner_turn(alloc, caller, cleaner),
+        }
+    }
+
+    /// Seals the old store, as a migrator's turn does that is about to seal it.
+    pub fn seal_old(&mut self, alloc: Global, caller: u32) -> Result<(), TurnFault>
+        ensures { TakesSomeTurn self.old caller (Actor.Migrator at.SealOld) (seal_said result) self.new (seal_left result) }
+    {
+        if !self.has_move_room() {
+            return Err(TurnFault::HistoryFull);
+        }
+        if self.log.reserve(caller).is_err() {
+            return Err(TurnFault::NoMemory);
+        }
+        let ask = StoreAsk {
+            side: Side::Old,
+            ask: Ask::Seal,
+        };
+        let _ = self.ask_store(alloc, caller, ask)?;
+        Ok(())
     }
 }

@@ -1,14 +1,15 @@
 //! The world: two stores, and the history of what happened to their table.
-ghost use Rattle.std.specs.Prelude.{◌≡◌, ◌≤◌, IfOk, IfErr, Err};
+ghost use Rattle.std.specs.Prelude.{◌≡◌, ◌≢◌, ◌≤◌, false, IfOk, IfErr, MatchBool, Ok, Err};
 ghost use Rattle.mt_open.specs.Opening.{OpensPair};
 ghost use Rattle.mt_world.specs.Worlds.{IsWorld};
 ghost use Rattle.mt_world.specs.Replays.{CountsRows};
 ghost use Rattle.mt_world.specs.Opening.{Opened};
-ghost use Rattle.mt_world.specs.Moves.{CanStep, IsCallOf};
+ghost use Rattle.mt_world.specs.Moves.{CanStep, MayRequest, IsCallOf, retired_where};
+ghost use Rattle.mt_world.specs.Sealing.{SealsOld};
 ghost use Rattle.mt_world.specs.Turns.{Knows, Turned};
-ghost use Rattle.mt_world.specs.WholeCalls.{EndsCall};
+ghost use Rattle.mt_world.specs.WholeCalls.{EndsCall, TakesSteps, is_client};
 
-use crate::actor::{Actor, Answer, ClientCall, Progress, Request, TurnFault};
+use crate::actor::{Actor, Answer, ClientCall, Progress, Request, Stepped, TurnFault};
 use crate::log::Log;
 use crate::opening::NotOpened;
 use crate::replay::count_rows;
@@ -19,6 +20,7 @@ use mt_history::History;
 use mt_model::{Entities, NoMemory};
 use mt_open::{OpenedPair, open_stores};
 use mt_query_plan::QueryCall;
+use mt_scan::{PageCall, page_bounds};
 use std::alloc::Global;
 use std::marker::Model;
 use std::snapshot::Snapshot;
@@ -82,6 +84,23 @@ impl<K: Keeper> Model for World<K> {
     }) };
 }
 
+/// Whether a world is retired after a turn that came to this: once a cleaner is done.
+fn retired_after(came: &Result<Progress, TurnFault>, retired: bool) -> bool
+    ensures { result ≡ retired_where came.now retired }
+{
+    match came {
+        Ok(Progress::Done(Answer::Cleaned)) => true,
+        _ => retired,
+    }
+}
+
+/// Whether an actor goes on after a turn that came to this.
+fn goes_on(came: &Result<Progress, TurnFault>) -> bool
+    ensures { MatchBool result (came.now ≡ Ok Progress.More) (came.now ≢ Ok Progress.More) }
+{
+    matches!(came, Ok(Progress::More))
+}
+
 impl<K: Keeper> World<K> {
     /// Opens two stores, the one of number 0 as the old one and that of number 1 as the new one, with a
     /// history that may have so many entries, 1 to 1,048,576.
@@ -134,8 +153,10 @@ impl<K: Keeper> World<K> {
         }
     }
 
-    /// The call of a request, at its beginning, which knows nothing yet. The world stays as it is.
+    /// The call of a request, at its beginning, which knows nothing yet. The world stays as it is. The
+    /// one error is want of memory, for the bounds of a page.
     pub fn call_of(&mut self, alloc: Global, request: Request) -> Result<ClientCall, NoMemory>
+        requires { MayRequest request }
         ensures same { self.new ≡ self.old }
         ensures call { IfOk result (IsCallOf request) }
         ensures ready { IfOk result (λ c. CanStep (Actor.Client c)) }
@@ -146,14 +167,22 @@ impl<K: Keeper> World<K> {
             Request::Query { pk, filter } => {
                 Ok(ClientCall::Query(QueryCall::new(pk, filter, false)))
             }
+            Request::Page { filter, top, token } => {
+                let bounds = page_bounds(alloc, &filter)?;
+                Ok(ClientCall::Page(PageCall::new(alloc, filter, bounds, top, token)))
+            }
         }
     }
 
     /// One turn of an actor: at most one store call, and then at most one entry. An answer or a fault
-    /// ends a client's call. A batch that was written is answered so: all memory is taken before.
+    /// ends a client's call. A batch that was written is answered so: all memory is taken before. A
+    /// migrator or cleaner stays where it is after a fault, and takes no further turn once it is done. The
+    /// world is retired once a cleaner is done.
     ///
-    /// Refused with `HistoryFull` exactly where the history has no room for an entry of the weight of
-    /// the call's batch or query. The history takes in order what was answered, and that store calls failed.
+    /// Refused with `HistoryFull`, with nothing done, exactly where the history has no room for an entry
+    /// of the weight of the call's batch or query, for a page of 64, its filter's size and 4,096, or of 64
+    /// for a migrator or cleaner. The history takes in order what calls were answered, each unit of a
+    /// page, and that store calls failed.
     pub fn turn(
         &mut self,
         alloc: Global,
@@ -165,12 +194,45 @@ impl<K: Keeper> World<K> {
         ensures turns { Turned self.old caller actor.old result self.new actor.new }
         ensures world { IsWorld self.old }
     {
-        self.stage.turn(alloc, caller, actor)
+        let came = self.stage.turn(alloc, caller, actor);
+        self.retired = retired_after(&came, self.retired);
+        came
+    }
+
+    /// Seals the old store, in one turn: from now on no partition is born in it. What clients see stays,
+    /// and a sealed store stays sealed. A store call that failed leaves its entry.
+    ///
+    /// Refused with `HistoryFull`, with nothing done, exactly where the history has no room for an entry
+    /// of the weight 64.
+    pub fn seal_old(&mut self, alloc: Global, caller: u32) -> Result<(), TurnFault>
+        ensures { SealsOld self.old caller result self.new }
+    {
+        self.stage.seal_old(alloc, caller)
+    }
+
+    /// Takes turns of a client until its call ends.
+    fn end_call(
+        &mut self,
+        alloc: Global,
+        caller: u32,
+        actor: &mut Actor,
+    ) -> Result<Answer, TurnFault>
+        requires ready { CanStep actor.old }
+        requires knows { Knows self.old actor.old }
+        ensures { EndsCall self.old caller actor.old result self.new }
+    {
+        loop {
+            match self.turn(alloc, caller, actor)? {
+                Progress::More => {}
+                Progress::Done(answer) => return Ok(answer),
+            }
+        }
     }
 
     /// Takes turns until the call ends, with no other caller between them. A batch at its beginning
     /// takes three at most while both stores tell what they hold: one that reads the old store, one that
-    /// reads the new one, where the old one says so, and one that writes. A query takes two at most.
+    /// reads the new one, where the old one says so, and one that writes. A query takes two at most, and
+    /// a page two for each of its 256 units. The entries of a page's units stay where a fault ends it.
     pub fn finish(
         &mut self,
         alloc: Global,
@@ -182,10 +244,26 @@ impl<K: Keeper> World<K> {
         ensures { EndsCall self.old caller (Actor.Client call) result self.new }
     {
         let mut actor = Actor::Client(call);
+        self.end_call(alloc, caller, &mut actor)
+    }
+
+    /// Takes at most so many turns of a migrator or a cleaner, with no other caller between them. It ends
+    /// with the first turn after which the actor does not go on: one that says that it is done or what has
+    /// stopped it, or one that came to nothing. The actor is then as that turn left it: after a fault, or
+    /// where there was no further turn to take, it may go on from where it is.
+    pub fn steps(&mut self, alloc: Global, caller: u32, actor: &mut Actor, steps: u32) -> Stepped
+        requires some { 1 ≤ steps }
+        requires machine { is_client actor.old ≡ false }
+        requires ready { CanStep actor.old }
+        requires knows { Knows self.old actor.old }
+        ensures { TakesSteps self.old caller actor.old steps result self.new actor.new }
+    {
+        let mut taken = 0;
         loop {
-            match self.turn(alloc, caller, &mut actor)? {
-                Progress::More => {}
-                Progress::Done(answer) => return Ok(answer),
+            let came = self.turn(alloc, caller, actor);
+            taken += 1;
+            if taken == steps || !goes_on(&came) {
+                return Stepped { taken, came };
             }
         }
     }

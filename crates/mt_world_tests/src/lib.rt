@@ -2,8 +2,6 @@
 #![tactic(auto)]
 
 #[cfg(test)]
-mod batches;
-#[cfg(test)]
 mod cleanings;
 #[cfg(test)]
 mod migrations;
@@ -17,5 +15,3 @@ mod queries;
 mod turns;
 #[cfg(test)]
 mod world_queries;
-#[cfg(test)]
-mod worlds;

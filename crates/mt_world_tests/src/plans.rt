@@ -1,11 +1,11 @@
 //! The call of a batch over two stores, one store call after the other.
-use crate::batches::{Do, Sample, batch};
 use mt_batch_plan::{BatchCall, BatchProgress};
 use mt_chain::{Ask, Cause, Cond, Keeper, Put, Refusal, Side, StoreAsk};
 use mt_mem::MemKeeper;
 use mt_meta::{MARKER_KEY, Mark, NewPhase, Phase};
 use mt_model::{Props, Tag, Text, Texts};
 use mt_test_stores::{FILLING, Past, SEEN, TURNED, kind_of, one, replace, reply_to, store_of};
+use mt_test_worlds::{Do, Sample, batch};
 use std::alloc::Global;
 use std::test::Fail;
 

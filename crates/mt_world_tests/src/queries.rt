@@ -1,10 +1,10 @@
 //! The call of a query over two stores, one store call after the other.
-use mt_filter::{Filter, read_filter};
 use mt_mem::MemKeeper;
 use mt_meta::{Mark, NewPhase, Phase};
 use mt_model::{Entity, Text};
 use mt_query_plan::{QueryCall, QueryProgress};
 use mt_test_stores::{FILLING, Past, SEEN, TURNED, reply_to, store_of};
+use mt_test_worlds::filter_of;
 use std::alloc::Global;
 use std::test::Fail;
 
@@ -19,17 +19,6 @@ struct Scene<'a> {
 
     /// The row keys, each with the number of the store and of the tag, and how many properties it has.
     told: &'a str,
-}
-
-/// The filter of a text, or none where it is empty.
-pub fn filter_of(alloc: Global, text: &str) -> Result<Option<Filter>, Fail> {
-    if text.is_empty() {
-        return Ok(None);
-    }
-    match read_filter(alloc, text) {
-        Ok(filter) => Ok(Some(filter)),
-        Err(_) => Err(Fail::new("no filter")),
-    }
 }
 
 fn tell(alloc: Global, rows: &[Entity]) -> Result<String, Fail> {

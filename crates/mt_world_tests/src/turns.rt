@@ -1,13 +1,15 @@
 //! Turns of the world: whole calls, and calls of two clients beside each other.
-ghost use Rattle.std.specs.Prelude.{◌≡◌, IfOk};
+ghost use Rattle.std.specs.Prelude.{◌≡◌, true, IfOk};
 ghost use Rattle.mt_world.specs.Moves.{CanStep};
 ghost use Rattle.mt_world.specs.Turns.{Knows};
+ghost use Rattle.mt_world.specs.WholeCalls.{is_client};
 
-use crate::batches::{Do, Sample, batch, insert_batch};
-use crate::worlds::{answer_text, asked, entry_text, opened, world_of};
 use mt_chain::Cond;
 use mt_mem::MemKeeper;
-use mt_test_stores::{FILLING, Past, TURNED, failing_store, rows_text, store_of};
+use mt_test_stores::{FILLING, Past, TURNED, failing_store, store_of};
+use mt_test_worlds::{
+    Do, Sample, answer_text, asked, batch, entry_text, insert_batch, opened, stores_text, world_of,
+};
 use mt_world::{Actor, Progress, Request, World};
 use std::alloc::Global;
 use std::test::Fail;
@@ -87,14 +89,6 @@ fn writes_many_rows_in_two_store_calls(rt: HostRuntime) -> Result<(), Fail> {
     Ok(())
 }
 
-/// What each store holds of a partition.
-fn stores_text(alloc: Global, world: World<MemKeeper>, pk: &str) -> Result<String, Fail> {
-    let mut stores = world.into_stores();
-    let old = rows_text(alloc, &mut stores.old, pk)?;
-    let new = rows_text(alloc, &mut stores.new, pk)?;
-    Ok(format!(in alloc; "old {old}new {new}")?)
-}
-
 /// What a batch of one operation comes to in the world of these stores, and what they hold then.
 fn written(
     alloc: Global,
@@ -145,6 +139,7 @@ fn a_deleted_row_is_inserted_again_in_new(rt: HostRuntime) -> Result<(), Fail> {
 /// A client at the beginning of a batch of one insert.
 fn client(alloc: Global, world: &mut World<MemKeeper>, rk: &str) -> Result<Actor, Fail>
     ensures same { world.new ≡ world.old }
+    ensures client { IfOk result (λ a. is_client a ≡ true) }
     ensures ready { IfOk result CanStep }
     ensures knows { IfOk result (Knows world.new) }
 {
@@ -161,9 +156,11 @@ fn step_beside(
     actor: &mut Actor,
     other: &Actor,
 ) -> Result<(), Fail>
+    requires client { is_client actor.old ≡ true }
     requires ready { CanStep actor.old }
     requires knows { Knows world.old actor.old }
     requires beside { Knows world.old other.now }
+    ensures client { is_client actor.new ≡ true }
     ensures ready { IfOk result (λ u. CanStep actor.new) }
     ensures knows { Knows world.new actor.new }
     ensures beside { Knows world.new other.now }
@@ -182,6 +179,7 @@ fn end_beside(
     actor: &mut Actor,
     other: &Actor,
 ) -> Result<String, Fail>
+    requires client { is_client actor.old ≡ true }
     requires ready { CanStep actor.old }
     requires knows { Knows world.old actor.old }
     requires beside { Knows world.old other.now }

@@ -1,11 +1,12 @@
 //! Queries of a world, beside batches.
-use crate::batches::{Do, batch};
-use crate::queries::filter_of;
-use crate::worlds::{asked, entry_text, opened};
+ghost use Rattle.std.specs.Prelude.{IfOk};
+ghost use Rattle.mt_world.specs.Moves.{MayRequest};
+
 use mt_chain::Cond;
 use mt_meta::{Mark, Phase};
 use mt_model::Text;
 use mt_test_stores::{FILLING, Past, SEEN, TURNED, failing_store, store_of};
+use mt_test_worlds::{Do, asked, batch, entry_text, filter_of, opened};
 use mt_world::Request;
 use std::alloc::Global;
 use std::test::Fail;
@@ -34,7 +35,9 @@ struct Scene<'a> {
     asks: [Ask; 3],
 }
 
-fn request(alloc: Global, ask: Ask) -> Result<Request, Fail> {
+fn request(alloc: Global, ask: Ask) -> Result<Request, Fail>
+    ensures { IfOk result MayRequest }
+{
     match ask {
         Ask::Op(kind) => Ok(Request::Batch(batch(alloc, "p", &[("r", kind)])?)),
         Ask::Query(pk, filter) => {

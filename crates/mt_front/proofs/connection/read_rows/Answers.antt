@@ -1,4 +1,4 @@
-use Rattle.std.proofs.Common.{Ok, [], sym, subst, refl, not, arith}
+use Rattle.std.proofs.Common.{Ok, Err, subst, refl, not, arith}
 use Rattle.std.specs.Prelude.{IfOk}
 use Rattle.mt_world.specs.declared.actor.Request.TheVariants as request
 use Rattle.mt_front.specs.declared.asks.Asked.TheVariants as asked
@@ -7,7 +7,6 @@ use Rattle.mt_front.specs.Reads.{ShowsRows}
 use Rattle.mt_front.specs.Refusals.{fault_reply, full_reply}
 use Rattle.mt_front.specs.Turns.{Tries}
 use Rattle.mt_http_out.specs.Rendering.{bytes_of}
-use Rattle.mt_front.proofs.CameLaws.{left_nothing}
 use Rattle.mt_front.proofs.ReadLaws.{found_shown}
 use Rattle.mt_front.proofs.TurnLaws.{tried_made, tried_said}
 use Rattle.mt_front.proofs.connection.read_rows.Goals as goal
@@ -20,6 +19,11 @@ unreachable-requires g c =
 pub unreachable-requires-in-Ok-Refused : goal.unreachable-requires-in-Ok-Refused
 unreachable-requires-in-Ok-Refused g c =
     let t : Tries 0 c.args.world.now (request.Query c.args.read.pk c.args.read.filter) (Ok (outcome.Refused c.in-Ok-Refused.field-0-0)) c.try_request.new.world = rw c.in-Ok-Refused.field-0-is at c.in-Ok-Refused.ensures in
+    t.1.own
+
+pub unreachable-requires-in-Ok-Paged : goal.unreachable-requires-in-Ok-Paged
+unreachable-requires-in-Ok-Paged g c =
+    let t : Tries 0 c.args.world.now (request.Query c.args.read.pk c.args.read.filter) (Ok (outcome.Paged c.in-Ok-Paged.field-0-0)) c.try_request.new.world = rw c.in-Ok-Paged.field-0-is at c.in-Ok-Paged.ensures in
     t.1.own
 
 pub returns-in-Ok-Found : goal.returns-in-Ok-Found
@@ -45,4 +49,6 @@ returns-in-Ok-Full g c =
     (λ marks left. (left, refl)) c.send_full.ensures
 
 pub returns : goal.returns
-returns g c = record { faults_out = omega arith; answers = ([], left_nothing 0 c.args.world.now c.try_request.new.world (rw c.in-Err.is at c.try_request.ensures), refl) }
+returns g c =
+    let t : Tries 0 c.args.world.now (request.Query c.args.read.pk c.args.read.filter) (Err c.in-Err.field-0) c.try_request.new.world = rw c.in-Err.is at c.try_request.ensures in
+    record { faults_out = omega arith; answers = (t.0, t.1, refl) }

@@ -1,4 +1,4 @@
-use Rattle.std.proofs.Common.{Ok, ◌∙◌, [], ap, sym, subst, refl, not, arith}
+use Rattle.std.proofs.Common.{Ok, Err, ◌∙◌, [], ap, sym, subst, refl, not, arith}
 use Rattle.std.specs.Prelude.{length}
 use Rattle.mt_world.specs.declared.actor.Request.TheVariants as request
 use Rattle.mt_front.specs.declared.asks.Asked.TheVariants as asked
@@ -6,8 +6,8 @@ use Rattle.mt_front.specs.declared.connection.Outcome.TheVariants as outcome
 use Rattle.mt_front.specs.Refusals.{refusal_reply, fault_reply, full_reply, Makes}
 use Rattle.mt_front.specs.Turns.{Tries}
 use Rattle.mt_http_out.specs.Rendering.{bytes_of}
-use Rattle.mt_front.proofs.CameLaws.{left_nothing}
-use Rattle.mt_front.proofs.TurnLaws.{tried_answered, tried_said, says_made, leaves_nothing}
+use Rattle.mt_front.proofs.CameLaws.{nothing_broke}
+use Rattle.mt_front.proofs.TurnLaws.{tried_answered, tried_said, says_made}
 use Rattle.mt_front.proofs.WriteLaws.{done_shown}
 use Rattle.mt_front.proofs.connection.write_rows.Goals as goal
 
@@ -40,6 +40,11 @@ unreachable-requires g c =
     let t : Tries 0 c.args.world.now (request.Batch c.into_batch.result) (Ok (outcome.Found c.in-Ok-Found.field-0-0)) c.try_request.new.world = rw c.in-Ok-Found.field-0-is at c.in-Ok-Found.ensures in
     t.1.own
 
+pub unreachable-requires-in-Ok-Paged : goal.unreachable-requires-in-Ok-Paged
+unreachable-requires-in-Ok-Paged g c =
+    let t : Tries 0 c.args.world.now (request.Batch c.into_batch.result) (Ok (outcome.Paged c.in-Ok-Paged.field-0-0)) c.try_request.new.world = rw c.in-Ok-Paged.field-0-is at c.in-Ok-Paged.ensures in
+    t.1.own
+
 pub returns-in-Ok-Fault : goal.returns-in-Ok-Fault
 returns-in-Ok-Fault g c =
     tried_said 0 c.args.world.now c.try_request.new.world (g.T.Sink.output c.args.sink.now) (g.T.Sink.output c.send_fault.new.sink) (asked.Write c.args.writes) (request.Batch c.args.writes.ops) c.args.keep outcome.Fault
@@ -55,7 +60,9 @@ returns-in-Ok-Full g c =
     (λ marks left. (left, refl)) c.send_full.ensures
 
 pub returns-in-Err : goal.returns-in-Err
-returns-in-Err g c = record { faults_out = omega arith; answers = ([], left_nothing 0 c.args.world.now c.try_request.new.world (rw c.in-Err.is at c.try_request.ensures), refl) }
+returns-in-Err g c =
+    let t : Tries 0 c.args.world.now (request.Batch c.into_batch.result) (Err c.in-Err.field-0) c.try_request.new.world = rw c.in-Err.is at c.try_request.ensures in
+    record { faults_out = omega arith; answers = (t.0, t.1, refl) }
 
 pub returns-in_default : goal.returns-in_default
-returns-in_default g c = record { faults_out = omega arith; answers = ([], left_nothing 0 c.args.world.now c.args.world.now (leaves_nothing c.args.world.now), refl) }
+returns-in_default g c = record { faults_out = omega arith; answers = ([], nothing_broke 0 c.args.world.now, refl) }

@@ -1,6 +1,5 @@
-use Rattle.std.proofs.Common.{◌≡◌, ◌∙◌, subst, append_assoc}
+use Rattle.std.proofs.Common.{◌≡◌, ◌∙◌, subst}
 use Rattle.std.specs.Prelude.{IfOk}
-use Rattle.mt_front.specs.Refusals.{error_object}
 use Rattle.mt_front.proofs.RefusalLaws.{object_is}
 use Rattle.mt_front.proofs.refusals.error_object.Goals as goal
 

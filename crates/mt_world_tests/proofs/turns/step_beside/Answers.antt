@@ -1,7 +1,7 @@
 use Rattle.std.proofs.Common.{Ok, subst}
 use Rattle.mt_world.specs.Turns.{Turned}
 use Rattle.mt_world.proofs.FinishLaws.{can_go_on}
-use Rattle.mt_world_tests.proofs.Beside.{known_beside}
+use Rattle.mt_world_tests.proofs.Beside.{known_beside, client_on}
 use Rattle.mt_world_tests.proofs.turns.step_beside.Goals as goal
 
 pub returns-in-Ok-More-clause-ready : goal.returns-in-Ok-More-clause-ready
@@ -10,7 +10,13 @@ returns-in-Ok-More-clause-ready c =
     can_go_on c.args.world.now c.turn.new.self c.args.caller c.args.actor.now c.turn.new.actor t.0 c.requires.ready t.1
 
 pub returns-in-Ok-More-clause-beside : goal.returns-in-Ok-More-clause-beside
-returns-in-Ok-More-clause-beside c = known_beside c.args.world.now c.turn.new.self c.args.caller c.args.actor.now c.turn.new.actor c.args.other.now c.turn.result c.turn.ensures.turns c.requires.beside
+returns-in-Ok-More-clause-beside c = known_beside c.args.world.now c.turn.new.self c.args.caller c.args.actor.now c.turn.new.actor c.args.other.now c.turn.result c.requires.client c.turn.ensures.turns c.requires.beside
 
 pub returns-clause-beside : goal.returns-clause-beside
-returns-clause-beside c = known_beside c.args.world.now c.turn.new.self c.args.caller c.args.actor.now c.turn.new.actor c.args.other.now c.turn.result c.turn.ensures.turns c.requires.beside
+returns-clause-beside c = known_beside c.args.world.now c.turn.new.self c.args.caller c.args.actor.now c.turn.new.actor c.args.other.now c.turn.result c.requires.client c.turn.ensures.turns c.requires.beside
+
+pub returns-in-Ok-More-clause-client : goal.returns-in-Ok-More-clause-client
+returns-in-Ok-More-clause-client c = client_on c.args.world.now c.turn.new.self c.args.caller c.args.actor.now c.turn.new.actor c.turn.result c.requires.client c.turn.ensures.turns
+
+pub returns-clause-client : goal.returns-clause-client
+returns-clause-client c = client_on c.args.world.now c.turn.new.self c.args.caller c.args.actor.now c.turn.new.actor c.turn.result c.requires.client c.turn.ensures.turns
