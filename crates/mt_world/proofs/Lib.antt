@@ -16,4 +16,5 @@ pub mod StepsLaws
 pub mod PageAnswerLaws
 pub mod ReplayLaws
 pub mod OpenPageLaws
+pub mod KeyCounts
 pub mod Theorems

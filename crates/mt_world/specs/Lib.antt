@@ -9,3 +9,5 @@ pub mod OpenPages
 pub mod Sealing
 pub mod Opening
 pub mod Replays
+pub mod KeysWithin
+pub mod MoverTurns

@@ -57,7 +57,7 @@ pass_cost Second done rk = chunk_cost done rk
 
 -- unless the partition is moved
 abbrev pub unmoved : Pair → List ℕ → ℕ → ℕ → ℕ
-unmoved p pk yes no = if is_moved p pk then yes else no
+unmoved p pk after before = if is_moved p pk then after else before
 
 -- the turns that a key of the list may cost still
 abbrev pub key_cost : Pair → State → Key → ℕ
