@@ -43,16 +43,16 @@ use Rattle.mt_migrate.proofs.ChunkSteps.{read_old_nears, read_new_nears, write_n
 one_met : (rows : Rows) (pk : List ℕ) (m : Put) → holds m (row_at rows pk (row_key m)) ≡ true → unmet_from 0 rows pk (m ∷ []) ≡ None
 one_met rows pk m h = all_hold 0 rows pk (m ∷ []) (h, tt)
 
-not_unmet : (c : Contents) (pk : List ℕ) (puts : List Put) (index : ℕ) → unmet_from 0 c.rows pk puts ≡ None → unmet_from 0 c.rows pk puts ≡ Some index → ⊥
+pub not_unmet : (c : Contents) (pk : List ℕ) (puts : List Put) (index : ℕ) → unmet_from 0 c.rows pk puts ≡ None → unmet_from 0 c.rows pk puts ≡ Some index → ⊥
 not_unmet c pk puts index met unmet = (let x : None ≡ Some index = sym met ∙ unmet in cc)
 
-unmet_one : (store : ℕ) (c : Contents) (pk : List ℕ) (m : Put) (index : ℕ) → holds m (row_at c.rows pk (row_key m)) ≡ true → judge store c pk (m ∷ []) ≡ UnmetAt index → ⊥
+pub unmet_one : (store : ℕ) (c : Contents) (pk : List ℕ) (m : Put) (index : ℕ) → holds m (row_at c.rows pk (row_key m)) ≡ true → judge store c pk (m ∷ []) ≡ UnmetAt index → ⊥
 unmet_one store c pk m index h is = not_unmet c pk (m ∷ []) index (one_met c.rows pk m h) (was_unmet store c pk (m ∷ []) index is).unmet
 
 pub new_allowed : (p : Pair) (pk : List ℕ) → IsSound p → is_sealed_off p.new pk ≡ true → ⊥
 new_allowed p pk s off = (let x : true ≡ false = sym (sealed_off_parts p.new pk off).0 ∙ s.unsealed in cc)
 
-old_allowed : (p : Pair) (pk : List ℕ) (marker : Tag) → has_tag marker (old_at p pk marker_key) ≡ true → is_sealed_off p.old pk ≡ true → ⊥
+pub old_allowed : (p : Pair) (pk : List ℕ) (marker : Tag) → has_tag marker (old_at p pk marker_key) ≡ true → is_sealed_off p.old pk ≡ true → ⊥
 old_allowed p pk marker held off =
     let m = tagged (old_at p pk marker_key) marker held in
     let x : true ≡ false = sym (has_its_partition p.old.rows pk marker_key m.0 m.1) ∙ (sealed_off_parts p.old pk off).1 in cc

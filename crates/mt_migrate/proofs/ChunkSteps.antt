@@ -171,7 +171,7 @@ of_chunk upto rows entries rk p' e = go (bytes_eq rk marker_key) (is_upto upto r
   go false false ea eb = absurd (out (ap (λ x. not x && is_upto upto rk) ea ∙ eb))
 
 -- the puts of a chunk that was just read hold
-puts_hold : (p : Pair) (pk : List ℕ) (before upto : Option (List ℕ)) (rows entries : List StoredRow) (puts : List Put) → AllByRecursion (λ r. is_from (past before) r.rk ≡ true) rows → AllByRecursion (λ r. is_from (past before) r.rk ≡ true) entries
+pub puts_hold : (p : Pair) (pk : List ℕ) (before upto : Option (List ℕ)) (rows entries : List StoredRow) (puts : List Put) → AllByRecursion (λ r. is_from (past before) r.rk ≡ true) rows → AllByRecursion (λ r. is_from (past before) r.rk ≡ true) entries
     → ((rk : List ℕ) → is_from (past before) rk ≡ true → is_upto upto rk ≡ true → option_map (shown rk) (new_at p pk rk) ≡ row_in entries rk)
     → AllByRecursion (IsWanted upto rows entries) puts → Each (Held p.new.rows pk) puts
 puts_hold p pk before upto rows entries [] a b reads h = tt

@@ -108,7 +108,7 @@ fills_marked Broken w e f = w
 pub old_reads : (p : Pair) (pk : List ℕ) (r : Stored) → IsSound p → old_at p pk marker_key ≡ Some r → old_phase_of r.tag.store r.props ≡ None → ⊥
 old_reads p pk r s is none = never_bad (mode p pk) (whole p s pk) (sym (old_state_is p pk r None is none) ∙ (says p s pk).old)
 
-new_reads : (p : Pair) (pk : List ℕ) (r : Stored) → IsSound p → new_at p pk marker_key ≡ Some r → new_phase_of r.props ≡ None → ⊥
+pub new_reads : (p : Pair) (pk : List ℕ) (r : Stored) → IsSound p → new_at p pk marker_key ≡ Some r → new_phase_of r.props ≡ None → ⊥
 new_reads p pk r s is none = never_bad_new (mode p pk) (whole p s pk) (sym (new_state_is p pk r None is none) ∙ (says p s pk).new)
 
 pub unmarked_fills : (p : Pair) (pk : List ℕ) → IsSound p → old_at p pk marker_key ≡ None → is_filling (new_state_at p pk) ≡ true → ⊥

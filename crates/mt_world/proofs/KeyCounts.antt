@@ -63,10 +63,10 @@ part_split (k ∷ keys) more pk = ap (λ b. bytes_eq pk k.pk || b) (part_split k
   by true = refl
   by false = refl
 
--- what partitions of keys have, the partition of each key has
-pub each_part : (P : List ℕ → Type 0) (keys : List Key) → ((pk : List ℕ) → has_part keys pk ≡ true → P pk) → AllByRecursion (λ k. P k.pk) keys
-each_part P [] h = tt
-each_part P (k ∷ keys) h = (h k.pk (ap (λ b. b || has_part keys k.pk) (text_same k.pk)), each_part P keys (λ pk is. h pk (also (bytes_eq pk k.pk) (has_part keys pk) is)))
+-- what each key of a partition of the list has, each key of the list has
+pub each_key : (P : Key → Type 0) (keys : List Key) → ((k : Key) → has_part keys k.pk ≡ true → P k) → AllByRecursion P keys
+each_key P [] h = tt
+each_key P (k ∷ keys) h = (h k (ap (λ b. b || has_part keys k.pk) (text_same k.pk)), each_key P keys (λ x is. h x (also (bytes_eq x.pk k.pk) (has_part keys x.pk) is)))
 
 -- a key that is there is of a partition that is there
 pub key_part : (keys : List Key) (pk rk : List ℕ) → has_key keys pk rk ≡ true → has_part keys pk ≡ true

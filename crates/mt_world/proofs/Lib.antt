@@ -17,4 +17,6 @@ pub mod PageAnswerLaws
 pub mod ReplayLaws
 pub mod OpenPageLaws
 pub mod KeyCounts
+pub mod KeysLaws
+pub mod MoverMarkers
 pub mod Theorems
