@@ -19,4 +19,5 @@ pub mod OpenPageLaws
 pub mod KeyCounts
 pub mod KeysLaws
 pub mod MoverMarkers
+pub mod MoverChunks
 pub mod Theorems
