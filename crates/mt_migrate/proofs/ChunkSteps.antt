@@ -252,7 +252,7 @@ each_of : (P : Put → Type 0) (puts : List Put) → AllByRecursion P puts → E
 each_of P [] h = tt
 each_of P (m ∷ puts) h = (h.0, each_of P puts h.1)
 
-in_rows : (P : List ℕ → Type 0) (rows : List StoredRow) (rk : List ℕ) (r : StoredRow) → AllByRecursion (λ r. P r.rk) rows → row_in rows rk ≡ Some r → P rk
+pub in_rows : (P : List ℕ → Type 0) (rows : List StoredRow) (rk : List ℕ) (r : StoredRow) → AllByRecursion (λ r. P r.rk) rows → row_in rows rk ≡ Some r → P rk
 in_rows P [] rk r h is = absurd (let x = is in cc)
 in_rows P (y ∷ rows) rk r h is = go (bytes_eq rk y.rk) refl (λ e. in_rows P rows rk r h.1 e) is where
   go : (b : Bool) → bytes_eq rk y.rk ≡ b → (row_in rows rk ≡ Some r → P rk) → cond b (Some y) (row_in rows rk) ≡ Some r → P rk

@@ -20,4 +20,5 @@ pub mod KeyCounts
 pub mod KeysLaws
 pub mod MoverMarkers
 pub mod MoverChunks
+pub mod MoverLeft
 pub mod Theorems
