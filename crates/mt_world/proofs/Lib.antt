@@ -21,4 +21,5 @@ pub mod KeysLaws
 pub mod MoverMarkers
 pub mod MoverChunks
 pub mod MoverLeft
+pub mod ClientTurns
 pub mod Theorems
