@@ -22,4 +22,6 @@ pub mod MoverMarkers
 pub mod MoverChunks
 pub mod MoverLeft
 pub mod ClientTurns
+pub mod MoverBeside
+pub mod WriteKeys
 pub mod Theorems
