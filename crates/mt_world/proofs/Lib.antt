@@ -24,4 +24,5 @@ pub mod MoverLeft
 pub mod ClientTurns
 pub mod MoverBeside
 pub mod WriteKeys
+pub mod OthersLeave
 pub mod Theorems

@@ -190,7 +190,7 @@ module _ (ops : List Op) (retired : Bool) (p q : Pair) (s : IsSound p) (t : IsSo
   good = good_puts part basis sorted of_sorted
 
   few_keys : length (keys_of ops) ≤ length ops
-  few_keys = (let x = length-map op_key ops in omega (arith, x))
+  few_keys = (let x = length-map ops op_key in omega (arith, x))
 
   of_part : AllByRecursion (λ op. (op_key op).pk ≡ part) ops
   of_part = recursion_from_All _ ops batch.partition
