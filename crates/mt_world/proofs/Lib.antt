@@ -25,4 +25,5 @@ pub mod ClientTurns
 pub mod MoverBeside
 pub mod WriteKeys
 pub mod OthersLeave
+pub mod TurnPairs
 pub mod Theorems

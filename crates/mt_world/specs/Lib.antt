@@ -11,3 +11,4 @@ pub mod Opening
 pub mod Replays
 pub mod KeysWithin
 pub mod MoverTurns
+pub mod MoverSince
