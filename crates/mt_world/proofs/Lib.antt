@@ -26,4 +26,5 @@ pub mod MoverBeside
 pub mod WriteKeys
 pub mod OthersLeave
 pub mod TurnPairs
+pub mod MoverHistory
 pub mod Theorems
