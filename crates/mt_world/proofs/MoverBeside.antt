@@ -192,7 +192,7 @@ part_most p part own k le = go (bytes_eq part.pk k.pk) (walk_cost part.walk (sta
   go true w h m = omega (arith, h, le)
   go false w h m = omega (arith, h, m)
 
-cost_most : (p : Pair) (state : State) (k : Key) → key_cost p state k ≤ 22
+pub cost_most : (p : Pair) (state : State) (k : Key) → key_cost p state k ≤ 22
 cost_most p (at.Walk walk from) k = (let w = walk_most walk from k.pk in let m = move_most p k.pk in omega (arith, w, m))
 cost_most p at.SealOld k = (let m = move_most p k.pk in omega (arith, m))
 cost_most p (at.Look part) k = part_most p part _ k (unmoved_most p part.pk)

@@ -223,3 +223,139 @@ mover_seal_since rows from taken w w' caller r state world seals h =
       sealed : (p q : Pair) → (q ≡ p) ⊎ (q ≡ Rattle.mt_meta.specs.Steps.with_old p (Rattle.mt_chain.specs.StoreCall.sealed_of p.old)) → LeavesMover 0 [] p q
       sealed p q (inl same) = subst (LeavesMover 0 [] p) (sym same) (leaves_same p)
       sealed p q (inr is) = leaves_seal p q is
+
+-- ---- whole calls, and some steps
+
+-- who is beside it stays so
+beside_stays : (w w' : WorldState) (caller : ℕ) (a a' : Actor) (r : Result Progress TurnFault) → Turned w caller a r w' a' → IsBesideMover a → IsBesideMover a'
+beside_stays w w' caller (Client call) a' r t beside = (let x = client_stays w w' caller call a' r t in subst IsBesideMover (sym x.1) tt)
+beside_stays w w' caller (Cleaner state) a' (Ok progress) t beside = (let x = cleaner_goes_on state t.1.moves.1 progress t.0 a' t.1.moves.4 in subst IsBesideMover (sym x.after) tt)
+beside_stays w w' caller (Cleaner state) a' (Err fault) t beside = subst IsBesideMover (sym (cleaner_stays w w' caller state a' fault t)) tt
+beside_stays w w' caller (Migrator state) a' r t beside = absurd beside
+
+finishes_since : (marks : List Mark) (rows from taken : ℕ) (w w' : WorldState) (caller : ℕ) (a : Actor) (r : Result Answer TurnFault) (state : State) → IsBesideMover a → IsWorld w → Knows w a → Finishes marks w caller a r w' → MoverSince rows from taken w state → MoverSince rows from taken w' state
+finishes_since [] rows from taken w w' caller a r state beside world knows f h = absurd f
+finishes_since (m ∷ []) rows from taken w w' caller a r state beside world knows f h = mover_beside_since rows from taken w w' caller a f.0 (last_turn r) state beside world knows (m.entry, f.1.turn) h
+finishes_since (m ∷ next ∷ marks) rows from taken w w' caller a r state beside world knows f h =
+    let t : Turned w caller a (Ok More) f.0 f.1 = (m.entry, f.2.turn) in
+    finishes_since (next ∷ marks) rows from taken f.0 w' caller f.1 r state (beside_stays w f.0 caller a f.1 (Ok More) t beside) (world_on w f.0 caller a f.1 (Ok More) m.entry world knows f.2.turn) f.2.turn.knows f.3
+    (mover_beside_since rows from taken w f.0 caller a f.1 (Ok More) state beside world knows t h)
+
+-- a whole call of a client
+pub mover_call_since : (rows from taken : ℕ) (w w' : WorldState) (caller : ℕ) (call : ClientCall) (r : Result Answer TurnFault) (state : State) → IsWorld w → Knows w (Client call) → EndsCall w caller (Client call) r w' → MoverSince rows from taken w state → MoverSince rows from taken w' state
+mover_call_since rows from taken w w' caller call r state world knows ends h = finishes_since ends.marks rows from taken w w' caller (Client call) r state tt world knows ends.turns h
+
+takes_since : (marks : List Mark) (rows from taken : ℕ) (w w' : WorldState) (caller : ℕ) (a a' : Actor) (r : Result Progress TurnFault) (state : State) → IsBesideMover a → IsWorld w → Knows w a → TakesTurns marks w caller a r w' a' → MoverSince rows from taken w state → MoverSince rows from taken w' state
+takes_since [] rows from taken w w' caller a a' r state beside world knows f h = absurd f
+takes_since (m ∷ []) rows from taken w w' caller a a' r state beside world knows f h = mover_beside_since rows from taken w w' caller a a' r state beside world knows (m.entry, f.turn) h
+takes_since (m ∷ next ∷ marks) rows from taken w w' caller a a' r state beside world knows f h =
+    let t : Turned w caller a (Ok More) f.0 f.1 = (m.entry, f.2.turn) in
+    takes_since (next ∷ marks) rows from taken f.0 w' caller f.1 a' r state (beside_stays w f.0 caller a f.1 (Ok More) t beside) (world_on w f.0 caller a f.1 (Ok More) m.entry world knows f.2.turn) f.2.turn.knows f.3
+    (mover_beside_since rows from taken w f.0 caller a f.1 (Ok More) state beside world knows t h)
+
+-- some steps of a cleaner
+pub mover_cleaned_since : (rows from taken : ℕ) (w w' : WorldState) (caller : ℕ) (cleaner : Rattle.mt_clean.specs.declared.state.State.State) (a' : Actor) (steps : ℕ) (s : SteppedOn) (state : State) → IsWorld w → Knows w (Cleaner cleaner) → TakesSteps w caller (Cleaner cleaner) steps s w' a'
+    → MoverSince rows from taken w state → MoverSince rows from taken w' state
+mover_cleaned_since rows from taken w w' caller cleaner a' steps s state world knows t h = takes_since t.marks rows from taken w w' caller (Cleaner cleaner) a' s.came state tt world knows t.turns h
+
+-- some steps of its own
+own_steps : (marks : List Mark) (rows from taken : ℕ) (w w' : WorldState) (caller : ℕ) (r : Result Progress TurnFault) (state to : State) → IsWorld w → Knows w (Migrator state) → TakesTurns marks w caller (Migrator state) r w' (Migrator to)
+    → MoverSince rows from taken w state → MoverSince rows from (taken + ok_turns (length marks) r) w' to
+own_steps [] rows from taken w w' caller r state to world knows f h = absurd f
+own_steps (m ∷ []) rows from taken w w' caller (Ok progress) state to world knows f h = mover_turn_since rows from taken w w' caller state to progress world knows (m.entry, f.turn) h
+own_steps (m ∷ []) rows from taken w w' caller (Err fault) state to world knows f h =
+    let t : Turned w caller (Migrator state) (Err fault) w' (Migrator to) = (m.entry, f.turn) in
+    subst (λ n. MoverSince rows from n w' to) (let e : taken ≡ taken + 0 = omega arith in e)
+    (subst (MoverSince rows from taken w') (sym (same_state to state (migrator_stays w w' caller state (Migrator to) fault t))) (mover_fault_since rows from taken w w' caller state (Migrator to) fault world knows t h))
+own_steps (m ∷ next ∷ marks) rows from taken w w' caller r state to world knows f h =
+    let on = Rattle.mt_world.proofs.MigratorLaws.migrator_goes_on state f.2.turn.moves.1 m.entry f.1 f.2.turn.moves.4 in
+    let turn : Turns w caller (Migrator state) (Ok More) m.entry f.0 (Migrator on.to) = subst (λ b. Turns w caller (Migrator state) (Ok More) m.entry f.0 b) on.after f.2.turn in
+    subst (λ n. MoverSince rows from n w' to) (sums r)
+    (own_steps (next ∷ marks) rows from (taken + 1) f.0 w' caller r on.to to (world_on w f.0 caller (Migrator state) (Migrator on.to) (Ok More) m.entry world knows turn) turn.knows (subst (λ b. TakesTurns (next ∷ marks) f.0 caller b r w' (Migrator to)) on.after f.3)
+    (mover_turn_since rows from taken w f.0 caller state on.to More world knows (m.entry, turn) h)) where
+      sums : (r : Result Progress TurnFault) → taken + 1 + ok_turns (length (next ∷ marks)) r ≡ taken + ok_turns (length (m ∷ next ∷ marks)) r
+      sums (Ok progress) = omega arith
+      sums (Err fault) = omega arith
+
+pub mover_steps_since : (rows from taken : ℕ) (w w' : WorldState) (caller : ℕ) (state to : State) (steps : ℕ) (s : SteppedOn) → IsWorld w → Knows w (Migrator state) → TakesSteps w caller (Migrator state) steps s w' (Migrator to)
+    → MoverSince rows from taken w state → MoverSince rows from (taken + ok_turns s.taken s.came) w' to
+mover_steps_since rows from taken w w' caller state to steps s world knows t h =
+    subst (λ n. MoverSince rows from (taken + ok_turns n s.came) w' to) (sym t.taken) (own_steps t.marks rows from taken w w' caller s.came state to world knows t.turns h)
+
+-- ---- what is read off
+
+rest_some : (state : State) (p : Pair) → GoesOn state → 1 ≤ Rattle.mt_world.specs.MoverTurns.state_rest p state
+rest_some (at.Walk Rattle.mt_migrate.specs.declared.state.Walk.TheVariants.BeforeSeal from) p on = omega arith
+rest_some (at.Walk Rattle.mt_migrate.specs.declared.state.Walk.TheVariants.AfterSeal from) p on = omega arith
+rest_some at.SealOld p on = omega arith
+rest_some (at.Look part) p on = go (Rattle.mt_world.specs.MoverTurns.is_moved p part.pk) (Rattle.mt_world.specs.MoverTurns.walk_rest part.walk) where
+  go : (b : Bool) (n : ℕ) → 1 ≤ n + cond b 2 12
+  go true n = omega arith
+  go false n = omega arith
+rest_some (at.Prepare part rows) p on = omega arith
+rest_some (at.Claim part pass) p on = go (Rattle.mt_world.specs.MoverTurns.is_moved p part.pk) (Rattle.mt_world.specs.MoverTurns.walk_rest part.walk) where
+  go : (b : Bool) (n : ℕ) → 1 ≤ n + cond b 1 10
+  go true n = omega arith
+  go false n = omega arith
+rest_some (at.Begin part pass) p on = omega arith
+rest_some (at.Takeover part pass filling) p on = omega arith
+rest_some (at.ReadOld c) p on = omega arith
+rest_some (at.ReadNew c old) p on = omega arith
+rest_some (at.Write c upto rows entries) p on = omega arith
+rest_some (at.Switch part marker epoch) p on = omega arith
+rest_some (at.Finish part epoch) p on = omega arith
+rest_some at.Done p on = absurd (let x = on in cc)
+
+left_some : (left : ℕ) (keys : List Key) (p : Pair) (state : State) → GoesOn state → LeftWithin left keys p state → 1 ≤ left
+left_some left keys p state on (inl h) = (let x = rest_some state p on in let y = h.1 in omega (arith, x, y))
+left_some left keys p state on (inr h) = (let x = rest_some state p on in omega (arith, x, h))
+
+told : (o : Option Rattle.mt_chain.specs.StoreCall.Contents) → is_some o ≡ true → (c : Rattle.mt_chain.specs.StoreCall.Contents) × (o ≡ Some c)
+told None e = absurd (let x = e in cc)
+told (Some c) e = (c, refl)
+
+-- one that is not done has taken fewer
+pub mover_within : (rows from taken : ℕ) (w : WorldState) (state : State) → Tells w → GoesOn state → MoverSince rows from taken w state → taken + 1 ≤ 25 * (rows + ops_since from w.history.entries) + 4
+mover_within rows from taken w state tells on h =
+    let a = told w.old_store.told tells.old in
+    let b = told w.new_store.told tells.new in
+    let m = at_pair w (λ p. MoverPlace (rows + ops_since from w.history.entries) taken p state) a.0 b.0 a.1 b.1 h.place in
+    let some = left_some m.left m.keys _ state on m.lasts in
+    let bound = m.bound in
+    omega (arith, some, bound)
+
+-- ---- a history
+
+known_still : (w v : WorldState) (state : State) → Beside IsBesideMover w v → Knows w (Migrator state) → Knows v (Migrator state)
+known_still w v state (inr s) knows = Rattle.mt_world.proofs.SealLaws.known_over_seal w v s.caller s.result (Migrator state) s.seals knows
+known_still w v state (inl t) knows = by t.actor t.other t.turn where
+  by : (a : Actor) → IsBesideMover a → Turned w t.caller a t.result v t.after → Knows v (Migrator state)
+  by (Client call) other turn = known_beside w v t.caller call t.after (Migrator state) t.result turn knows
+  by (Cleaner cleaner) other turn = all_known v (Rattle.mt_world.specs.Moves.actor_facts t.after) (Rattle.mt_world.specs.Moves.actor_facts (Migrator state))
+      (stands_beside w v t.caller (Cleaner cleaner) t.after (Migrator state) t.result turn (all_stand w (Rattle.mt_world.specs.Moves.actor_facts (Cleaner cleaner)) (Rattle.mt_world.specs.Moves.actor_facts (Migrator state)) (Rattle.mt_clean.proofs.CleanerLaw.all_plain cleaner) knows))
+  by (Migrator other) no turn = absurd no
+
+pub world_beside : (IsOther : Actor → Type 0) (w v : WorldState) → IsWorld w → Beside IsOther w v → IsWorld v
+world_beside IsOther w v world (inl t) = world_on w v t.caller t.actor t.after t.result t.turn.0 world t.knows t.turn.1
+world_beside IsOther w v world (inr s) = (seal_turn w v s.caller s.result world s.seals).world
+
+other_since : (rows from taken : ℕ) (w v : WorldState) (state : State) → IsWorld w → Beside IsBesideMover w v → MoverSince rows from taken w state → MoverSince rows from taken v state
+other_since rows from taken w v state world (inl t) h = mover_beside_since rows from taken w v t.caller t.actor t.after t.result state t.other world t.knows t.turn h
+other_since rows from taken w v state world (inr s) h = mover_seal_since rows from taken w v s.caller s.result state world s.seals h
+
+runs_since : (happenings : List Happening) (rows from taken : ℕ) (w w' : WorldState) (state to : State) → IsWorld w → Knows w (Migrator state) → MoverRuns happenings w state w' to → MoverSince rows from taken w state → MoverSince rows from (taken + own_turns happenings) w' to
+runs_since [] rows from taken w w' state to world knows run h =
+    subst (λ n. MoverSince rows from n w' to) (let e : taken ≡ taken + 0 = omega arith in e) (subst (λ v. MoverSince rows from taken v to) (sym run.0) (subst (MoverSince rows from taken w) (sym run.1) h))
+runs_since (OwnTurn ∷ rest) rows from taken w w' state to world knows run h =
+    subst (λ n. MoverSince rows from n w' to) (let e : taken + 1 + own_turns rest ≡ taken + (own_turns rest + 1) = omega arith in e)
+    (runs_since rest rows from (taken + 1) run.0 w' run.1 to (world_on w run.0 run.2 (Migrator state) (Migrator run.1) (Ok run.3) run.4.0 world knows run.4.1) run.4.1.knows run.5 (mover_turn_since rows from taken w run.0 run.2 state run.1 run.3 world knows run.4 h))
+runs_since (OwnFault ∷ rest) rows from taken w w' state to world knows run h =
+    runs_since rest rows from taken run.0 w' state to (world_on w run.0 run.1 (Migrator state) (Migrator state) (Err run.2) run.3.0 world knows run.3.1) run.3.1.knows run.4 (mover_fault_since rows from taken w run.0 run.1 state (Migrator state) run.2 world knows run.3 h)
+runs_since (OtherTurn ∷ rest) rows from taken w w' state to world knows run h =
+    runs_since rest rows from taken run.0 w' state to (world_beside IsBesideMover w run.0 world run.1) (known_still w run.0 state run.1 knows) run.2 (other_since rows from taken w run.0 state world run.1 h)
+
+pub new_mover_within : (happenings : List Happening) (rows : ℕ) (w w' : WorldState) (state : State) → IsWorld w → HasRows rows w → Tells w' → MoverRuns happenings w begin w' state → GoesOn state
+    → own_turns happenings + 1 ≤ 25 * (rows + ops_since (length w.history.entries) w'.history.entries) + 4
+new_mover_within happenings rows w w' state world has tells run on =
+    mover_within rows (length w.history.entries) (own_turns happenings) w' state tells on
+    (runs_since happenings rows (length w.history.entries) 0 w w' begin state world (for_pair w (λ p. Rattle.mt_world.specs.Worlds.AreTrueOf w p []) (λ a b ea eb. tt)) run (mover_begins rows w world has))
