@@ -124,7 +124,7 @@ none_since w = ap (sum_by (λ e. Rattle.mt_world.specs.KeysWithin.written_ops e.
 pub mover_begins : (rows : ℕ) (w : WorldState) → IsWorld w → HasRows rows w → MoverSince rows (length w.history.entries) 0 w begin
 mover_begins rows w world has = record {
   begun = omega arith;
-  place = for_pair w _ (λ a b ea eb. (let p = Rattle.mt_world.specs.Worlds.pair_of w a b in let none = none_since w in
+  place = for_pair w (λ p. MoverPlace (rows + ops_since (length w.history.entries) w.history.entries) 0 p begin) (λ a b ea eb. (let p = Rattle.mt_world.specs.Worlds.pair_of w a b in let none = none_since w in
       begin_place (rows + ops_since (length w.history.entries) w.history.entries) p (at_pair w (IsReplayed w) a b ea eb world.replayed).sound
       (let x = at_pair w (λ p. length p.old.rows + length p.new.rows ≤ rows) a b ea eb has in omega (arith, x, none))));
 }
@@ -320,7 +320,7 @@ mover_within rows from taken w state tells on h =
     let a = told w.old_store.told tells.old in
     let b = told w.new_store.told tells.new in
     let m = at_pair w (λ p. MoverPlace (rows + ops_since from w.history.entries) taken p state) a.0 b.0 a.1 b.1 h.place in
-    let some = left_some m.left m.keys _ state on m.lasts in
+    let some = left_some m.left m.keys (Rattle.mt_world.specs.Worlds.pair_of w a.0 b.0) state on m.lasts in
     let bound = m.bound in
     omega (arith, some, bound)
 
@@ -333,7 +333,7 @@ known_still w v state (inl t) knows = by t.actor t.other t.turn where
   by (Client call) other turn = known_beside w v t.caller call t.after (Migrator state) t.result turn knows
   by (Cleaner cleaner) other turn = all_known v (Rattle.mt_world.specs.Moves.actor_facts t.after) (Rattle.mt_world.specs.Moves.actor_facts (Migrator state))
       (stands_beside w v t.caller (Cleaner cleaner) t.after (Migrator state) t.result turn (all_stand w (Rattle.mt_world.specs.Moves.actor_facts (Cleaner cleaner)) (Rattle.mt_world.specs.Moves.actor_facts (Migrator state)) (Rattle.mt_clean.proofs.CleanerLaw.all_plain cleaner) knows))
-  by (Migrator other) no turn = absurd no
+  by (Migrator other) none turn = absurd none
 
 pub world_beside : (IsOther : Actor → Type 0) (w v : WorldState) → IsWorld w → Beside IsOther w v → IsWorld v
 world_beside IsOther w v world (inl t) = world_on w v t.caller t.actor t.after t.result t.turn.0 world t.knows t.turn.1
@@ -357,5 +357,6 @@ runs_since (OtherTurn ∷ rest) rows from taken w w' state to world knows run h 
 pub new_mover_within : (happenings : List Happening) (rows : ℕ) (w w' : WorldState) (state : State) → IsWorld w → HasRows rows w → Tells w' → MoverRuns happenings w begin w' state → GoesOn state
     → own_turns happenings + 1 ≤ 25 * (rows + ops_since (length w.history.entries) w'.history.entries) + 4
 new_mover_within happenings rows w w' state world has tells run on =
-    mover_within rows (length w.history.entries) (own_turns happenings) w' state tells on
-    (runs_since happenings rows (length w.history.entries) 0 w w' begin state world (for_pair w (λ p. Rattle.mt_world.specs.Worlds.AreTrueOf w p []) (λ a b ea eb. tt)) run (mover_begins rows w world has))
+    let h = runs_since happenings rows (length w.history.entries) 0 w w' begin state world (for_pair w (λ p. Rattle.mt_world.specs.Worlds.AreTrueOf w p []) (λ a b ea eb. tt)) run (mover_begins rows w world has) in
+    let x = mover_within rows (length w.history.entries) (0 + own_turns happenings) w' state tells on h in
+    omega (arith, x)
