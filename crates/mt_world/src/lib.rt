@@ -3,6 +3,7 @@
 
 mod actor;
 mod cleaning;
+mod event;
 mod log;
 mod moving;
 mod opening;
@@ -13,5 +14,6 @@ mod stage;
 mod world;
 
 pub use actor::{Actor, Answer, ClientCall, Progress, Request, Stepped, TurnFault};
+pub use event::Event;
 pub use opening::NotOpened;
 pub use world::{Stores, World};
