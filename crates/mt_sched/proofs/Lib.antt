@@ -1,0 +1,4 @@
+pub mod SlotLaws
+pub mod Did
+pub mod Sounds
+pub mod RunLaws
