@@ -106,7 +106,7 @@ slots_stay w w' slots h tells keeps = record {
   apart = λ j k ne. goes_on w w' (AllApart (facts_at slots j) (facts_at slots k)) tells (h.apart j k ne);
 }
 
-nobody_at : (n i : ℕ) → actor_at (replicate n nobody) i ≡ nobody
+pub nobody_at : (n i : ℕ) → actor_at (replicate n nobody) i ≡ nobody
 nobody_at zero i = refl
 nobody_at (suc n) zero = refl
 nobody_at (suc n) (suc i) = nobody_at n i

@@ -25,7 +25,7 @@ use Rattle.mt_world.specs.Sealing.{SealsOld, seal_said}
 use Rattle.mt_sched.specs.declared.trace.Traced.{Traced}
 use Rattle.mt_sched.specs.declared.trace.Move.{Move}
 use Rattle.mt_sched.specs.declared.course.Course.{Course}
-use Rattle.mt_sched.specs.Slots.{nobody, is_at_work, actor_at}
+use Rattle.mt_sched.specs.Slots.{nobody, is_at_work, actor_at, SlotsHold}
 
 -- what stands between two events: the world, who is at work, of each client the place of its call's first step, the trace so far, and the place of the next event
 pub record Config : Type 0 where
@@ -167,3 +167,20 @@ EventDoes Seal s t = (r : Result (Unit {0}) TurnFault) × Seals s t r
 abbrev pub Runs : List Event → Config → Config → Type 0
 Runs [] s t = t ≡ s
 Runs (e ∷ es) s t = (m : Config) × EventDoes e s m × Runs es m t
+
+-- the run of all events, with this trace
+pub record RunsTo (w : WorldState) (events : List Event) (done : List Traced) (moves : List Move) (w' : WorldState) : Type 0 where
+  pub slots : List Actor
+  pub firsts : List (Option ℕ)
+  pub runs : Runs events (started w) (record { world = w'; slots = slots; firsts = firsts; done = done; moves = moves; place = length events })
+  -- whoever is still at work may go on
+  pub hold : SlotsHold w' slots
+
+-- the run of the events before some place
+pub record Breaks (w : WorldState) (events : List Event) (w' : WorldState) : Type 0 where
+  pub before : List Event
+  pub rest : List Event
+  pub split : events ≡ before ++ rest
+  pub reached : Config
+  pub runs : Runs before (started w) reached
+  pub world : reached.world ≡ w'

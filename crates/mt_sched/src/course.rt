@@ -1,5 +1,5 @@
 //! The course of a run: who is at work between two events, and the trace so far.
-ghost use Rattle.std.specs.Prelude.{◌≡◌, ◌<◌, ◌≤◌, ◌^◌, ◌+◌, ◌++◌, ◌∷◌, [], ℕ, true, IfOk, OnErr, IsTrue, Option, None, length, replicate, vec_len, vec_capacity, slice_set};
+ghost use Rattle.std.specs.Prelude.{MatchBool, ◌&&◌, ◌≡◌, ◌<◌, ◌≤◌, ◌^◌, ◌+◌, ◌++◌, ◌∷◌, [], ℕ, true, IfOk, OnErr, IsTrue, Option, None, length, replicate, vec_len, vec_capacity, slice_set};
 ghost use Rattle.mt_world.specs.Worlds.{WorldState};
 ghost use Rattle.mt_world.specs.Moves.{MayRequest};
 ghost use Rattle.mt_world.specs.WholeCalls.{is_at_end, end_of};
@@ -9,7 +9,7 @@ ghost use Rattle.mt_sched.specs.Slots.{nobody, is_at_work, actor_at, SlotsHold};
 ghost use Rattle.mt_sched.specs.Runs.{Config, config_of, started, may_request, outcome_of, first_of, first_after, traced_of, left_by, given, passed, is_number, ClientDoes, MoverDoes, Seals, EventDoes};
 
 use crate::sense::may_request;
-use crate::trace::{Move, Traced};
+use crate::trace::{Move, Trace, Traced};
 use mt_chain::Keeper;
 use mt_model::NoMemory;
 use mt_world::{Actor, Answer, ClientCall, Event, Progress, Request, TurnFault, World};
@@ -366,6 +366,18 @@ impl Course {
             Event::CleanStep { j } => self.go_on(alloc, world, CLEANERS, j, place),
             Event::CleanCrash { j } => Ok(self.put(CLEANERS, j, nobody())),
             Event::Seal => self.seal(alloc, world, place),
+        }
+    }
+    /// The trace, with the number of store calls.
+    pub fn into_trace(self, calls: u64) -> Trace
+        ensures done { result.done.items ≡ self.done.items }
+        ensures moves { result.moves.items ≡ self.moves.items }
+        ensures calls { result.calls ≡ calls }
+    {
+        Trace {
+            done: self.done,
+            moves: self.moves,
+            calls,
         }
     }
 }

@@ -1,8 +1,7 @@
 //! Runs of schedules.
-ghost use Rattle.std.specs.Prelude.{◌≡◌, ◌≤◌, ℕ, ◌++◌, List, IfOk, OnErr, length};
+ghost use Rattle.std.specs.Prelude.{◌≡◌, ◌≤◌, ◌+◌, IfOk, OnErr, length};
 ghost use Rattle.mt_world.specs.Worlds.{IsWorld};
-ghost use Rattle.mt_world.specs.declared.event.Event.{Event};
-ghost use Rattle.mt_sched.specs.Runs.{Config, config_of, started, Runs};
+ghost use Rattle.mt_sched.specs.Runs.{config_of, started, Runs, RunsTo, Breaks};
 
 use crate::course::Course;
 use crate::trace::Trace;
@@ -18,7 +17,7 @@ fn run_events<K: Keeper>(
     events: Vec<Event>,
 ) -> Result<Course, NoMemory>
     ensures runs { IfOk result (λ course. Runs events.items (started world.old) (config_of world.new course (length events.items))) }
-    ensures broke { OnErr result (Breaks events.items (started world.old) world.new) }
+    ensures broke { OnErr result (Breaks world.old events.items world.new) }
 {
     let mut course = Course::new(alloc)?;
     let mut place = 0;
@@ -27,4 +26,26 @@ fn run_events<K: Keeper>(
         place += 1;
     }
     Ok(course)
+}
+
+/// Runs the events one after the other, whatever they are; one that has no sense has no effect. What
+/// each does, and what the trace says of it, are the clauses below.
+///
+/// The one error is want of memory for a call that begins or for the trace, and then the events before
+/// some place were run. Where a turn wants memory, that is its outcome, and the run goes on.
+pub fn run_schedule<K: Keeper>(
+    alloc: Global,
+    world: &mut World<K>,
+    events: Vec<Event>,
+) -> Result<Trace, NoMemory>
+    ensures runs { IfOk result (λ trace. RunsTo world.old events.items trace.done.items trace.moves.items world.new) }
+    ensures broke { OnErr result (Breaks world.old events.items world.new) }
+    ensures world { IsWorld world.new }
+    ensures calls { IfOk result (λ trace. world.old.calls + trace.calls ≡ world.new.calls) }
+{
+    let before = world.calls();
+    let course = run_events(alloc, world, events);
+    let calls = world.calls() - before;
+    let course = course?;
+    Ok(course.into_trace(calls))
 }
