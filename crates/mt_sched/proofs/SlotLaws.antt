@@ -2,6 +2,7 @@
 use Rattle.std.proofs.Common.{◌≡◌, ◌≢◌, ◌∙◌, ◌<◌, ℕ, Bool, true, false, List, [], ◌∷◌, length, refl, sym, ap, subst, inl, inr, replicate, zero, suc, get_or-set_same, get_or-set_other, Option, Some, None, Result, Ok, Err}
 use Rattle.std.specs.Prelude.{is_some, slice_set}
 use Rattle.std.proofs.lemmas.Bool.{cases_eq}
+use Rattle.std.proofs.lemmas.List.{set-set}
 use Rattle.mt_chain.specs.StoreCall.{Contents}
 use Rattle.mt_meta.specs.Logical.{Pair}
 use Rattle.mt_meta.specs.declared.fact.Fact.{Fact}
@@ -17,7 +18,7 @@ use Rattle.mt_sched.specs.Slots.{nobody, is_at_work, actor_at, facts_at, AllApar
 
 -- ---- where both stores tell
 
-told_some : (o : Option Contents) → is_some o ≡ true → (c : Contents) × (o ≡ Some c)
+pub told_some : (o : Option Contents) → is_some o ≡ true → (c : Contents) × (o ≡ Some c)
 told_some None h = absurd cc
 told_some (Some c) h = (c, refl)
 
@@ -117,3 +118,7 @@ all_nobody w n = record {
   know = λ i. subst (Knows w) (sym (nobody_at n i)) (for_pair w (λ p. AreTrueOf w p []) (λ x y ex ey. tt));
   apart = λ i j ne. subst (λ a. ForPair w (λ p. AllApart (actor_facts a) (facts_at (replicate n nobody) j))) (sym (nobody_at n i)) (for_pair w (λ p. AllApart [] (facts_at (replicate n nobody) j)) (λ x y ex ey. tt));
 }
+
+-- a slot that is set twice
+pub set_again : (slots : List Actor) (i : ℕ) (a b c : Actor) → i < length slots → b ≡ c → slice_set (slice_set slots i a) i b ≡ slice_set slots i c
+set_again slots i a b c lt e = set-set slots i a b ∙ ap (slice_set slots i) e

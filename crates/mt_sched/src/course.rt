@@ -62,9 +62,9 @@ fn empty_slots(alloc: Global) -> Result<Vec<Actor>, NoMemory>
     Ok(slots)
 }
 
-fn give(slots: &mut [Actor], caller: u32, actor: Actor)
-    requires { caller < length slots.old }
-    ensures { slots.new ≡ slice_set slots.old caller actor }
+fn give(slots: &mut Vec<Actor>, caller: u32, actor: Actor)
+    requires { caller < length slots.old.items }
+    ensures { slots.new.items ≡ slice_set slots.old.items caller actor }
 {
     slots[caller as usize] = actor;
 }
@@ -151,9 +151,9 @@ fn is_at_end(came: &Result<Progress, TurnFault>) -> bool
 }
 
 /// Empties the slot of a migrator or a cleaner that is done.
-fn leave(slots: &mut [Actor], caller: u32, came: &Result<Progress, TurnFault>)
-    requires { caller < length slots.old }
-    ensures { slots.new ≡ slice_set slots.old caller (left_by came.now (actor_at slots.old caller)) }
+fn leave(slots: &mut Vec<Actor>, caller: u32, came: &Result<Progress, TurnFault>)
+    requires { caller < length slots.old.items }
+    ensures { slots.new.items ≡ slice_set slots.old.items caller (left_by came.now (actor_at slots.old.items caller)) }
 {
     if is_at_end(came) {
         give(slots, caller, nobody());
