@@ -1,4 +1,14 @@
+pub mod Lists
 pub mod SlotLaws
 pub mod Did
 pub mod Sounds
 pub mod RunLaws
+pub mod Growth
+pub mod Entries
+pub mod Counts
+pub mod Causes
+pub mod Leaving
+pub mod CallLaws
+pub mod Stories
+pub mod MoveLaws
+pub mod Theorems

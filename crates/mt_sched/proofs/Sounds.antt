@@ -202,29 +202,29 @@ sound_set before e s t i a lt is firsts low high hold k = record {
   fits = (let n = k.slots in omega (arith, n, lt))
 
 pub sound_did : (before : List Event) (e : Event) (s t : Config) → Did s t e → Sound before s → Sound (before ++ e ∷ []) t
-sound_did before e s t (Passed _ is) k = record {
+sound_did before e s t (Passed _ no_sense is) k = record {
   slots = ap (λ (x : Config). length x.slots) is ∙ k.slots;
   firsts = ap (λ (x : Config). length x.firsts) is ∙ k.firsts;
   clients = λ i lt. subst (λ (x : Config). is_client (actor_at x.slots i) ≡ true) (sym is) (k.clients i lt);
   movers = λ i le. subst (λ (x : Config). is_at_work (actor_at x.slots i) ≡ true → is_client (actor_at x.slots i) ≡ false) (sym is) (k.movers i le);
   hold = subst (λ (x : Config). SlotsHold x.world x.slots) (sym is) k.hold;
 }
-sound_did before e s t (Begun c q call lt idle sense of is) k =
-    sound_set before e s t c (Client call) (omega (arith, lt)) (ap (λ (x : Config). x.slots) is) (ap (λ (x : Config). length x.firsts) is) (λ low. refl) (λ high. absurd (omega (arith, lt, high)))
+sound_did before _ s t (Begun c q call lt idle sense of is) k =
+    sound_set before _ s t c (Client call) (omega (arith, lt)) (ap (λ (x : Config). x.slots) is) (ap (λ (x : Config). length x.firsts) is) (λ low. refl) (λ high. absurd (omega (arith, lt, high)))
     (subst (λ (x : Config). SlotsHold x.world (slice_set s.slots c (Client call))) (sym is)
     (slots_given s.world s.slots c (Client call) (let n = k.slots in omega (arith, n, lt)) k.hold (λ h. begun_ready q call sense of) (begun_facts q call of))) k
-sound_did before e s t (Stepped c r entry a lt works does) k =
+sound_did before _ s t (Stepped c r entry a lt works does) k =
     let turn = does.takes.turn in
     let own = actor_at s.slots c in
     let client = k.clients c lt in
-    sound_set before e s t c a (omega (arith, lt)) does.slots (ap length does.firsts ∙ length-set s.firsts c _)
+    sound_set before _ s t c a (omega (arith, lt)) does.slots (ap length does.firsts ∙ length-set s.firsts c _)
     (λ low. kind_same own a (kind_after s.world t.world c own a r entry turn) ∙ client) (λ high. absurd (omega (arith, lt, high)))
     (slots_moved s.world t.world s.slots c a (let n = k.slots in omega (arith, n, lt)) k.hold turn.tells (client_turn_ready s.world t.world c own a r entry client (k.hold.ready c works) turn) turn.knows turn.keeps) k
-sound_did before e s t (Put _ i a low high fresh is) k =
+sound_did before e s t (Put _ i a others low high fresh is) k =
     sound_set before e s t i a high (ap (λ (x : Config). x.slots) is) (ap (λ (x : Config). length x.firsts) is) (λ lt. absurd (omega (arith, low, lt))) (λ le. fresh_machine a fresh)
     (subst (λ (x : Config). SlotsHold x.world (slice_set s.slots i a)) (sym is)
     (slots_given s.world s.slots i a (let n = k.slots in omega (arith, n, high)) k.hold (fresh_ready a fresh) (fresh_facts a fresh))) k
-sound_did before e s t (Moved _ i r entry a low high works does) k =
+sound_did before e s t (Moved _ i r entry a others low high works does) k =
     let turn = does.takes.turn in
     let own = actor_at s.slots i in
     let machine = k.movers i low works in
@@ -232,7 +232,7 @@ sound_did before e s t (Moved _ i r entry a low high works does) k =
     (λ le. left_machine r a (kind_same own a (kind_after s.world t.world i own a r entry turn) ∙ machine))
     (slots_moved s.world t.world s.slots i (left_by r a) (let n = k.slots in omega (arith, n, high)) k.hold turn.tells (mover_ready s.world t.world i own a r entry machine (k.hold.ready i works) turn)
     (left_knows s.world t.world i own a r entry turn) (left_keeps s.world t.world i own a r entry turn)) k
-sound_did before e s t (Sealed r does) k = record {
+sound_did before _ s t (Sealed r does) k = record {
   slots = ap length does.slots ∙ k.slots;
   firsts = ap length does.firsts ∙ k.firsts;
   clients = λ i lt. subst (λ xs. is_client (actor_at xs i) ≡ true) (sym does.slots) (k.clients i lt);
@@ -251,3 +251,8 @@ started_sound w = record {
 
 pub sound_law : (es : List Event) (w : WorldState) (t : Config) → Runs es (started w) t → Sound es t
 sound_law es w t run = keep Sound sound_did [] es (started w) t run (started_sound w)
+
+-- what each event keeps, where the slots are so, is kept by a run from its start
+pub along : (Inv : List Event → Config → Type 0) → ((before : List Event) (e : Event) (s t : Config) → Did s t e → Sound before s → Inv before s → Inv (before ++ e ∷ []) t)
+    → (es : List Event) (w : WorldState) (t : Config) → Runs es (started w) t → Inv [] (started w) → Inv es t
+along Inv step es w t run i = (keep (λ before x. Sound before x × Inv before x) (λ before e s x d k. (sound_did before e s x d k.0, step before e s x d k.0 k.1)) [] es (started w) t run (started_sound w, i)).1

@@ -1,3 +1,4 @@
 pub mod Slots
 pub mod Runs
+pub mod Calls
 pub mod Traces

@@ -151,17 +151,33 @@ MoverDoes s t caller = (r : Result Progress TurnFault) × (entry : Option NewEnt
 abbrev pub Begins : Config → Config → ℕ → Request → Type 0
 Begins s t client request = (call : ClientCall) × IsCallOf request call × (t ≡ given s client (Client call))
 
--- what each event does, where it has sense
+-- a client that is idle may begin what it may ask for, one that has a call may step, a migrator or cleaner may begin anew, and may step unless it is done
+abbrev pub has_sense : Config → Event → Bool
+has_sense s (Start client request) = is_number client && (not (is_at_work (actor_at s.slots client)) && may_request request)
+has_sense s (Step client) = is_number client && is_at_work (actor_at s.slots client)
+has_sense s (MigrateStart j) = is_number j
+has_sense s (MigrateStep j) = is_number j && is_at_work (actor_at s.slots (migrator_of j))
+has_sense s (MigrateCrash j) = is_number j
+has_sense s (CleanStart j) = is_number j
+has_sense s (CleanStep j) = is_number j && is_at_work (actor_at s.slots (cleaner_of j))
+has_sense s (CleanCrash j) = is_number j
+has_sense s Seal = true
+
+-- what an event that has sense does
+abbrev pub Does : Event → Config → Config → Type 0
+Does (Start client request) s t = Begins s t client request
+Does (Step client) s t = ClientDoes s t client
+Does (MigrateStart j) s t = t ≡ given s (migrator_of j) (Migrator begin)
+Does (MigrateStep j) s t = MoverDoes s t (migrator_of j)
+Does (MigrateCrash j) s t = t ≡ given s (migrator_of j) nobody
+Does (CleanStart j) s t = t ≡ given s (cleaner_of j) (Cleaner at.Walk)
+Does (CleanStep j) s t = MoverDoes s t (cleaner_of j)
+Does (CleanCrash j) s t = t ≡ given s (cleaner_of j) nobody
+Does Seal s t = (r : Result (Unit {0}) TurnFault) × Seals s t r
+
+-- any other has its place alone
 abbrev pub EventDoes : Event → Config → Config → Type 0
-EventDoes (Start client request) s t = MatchBool (is_number client && (not (is_at_work (actor_at s.slots client)) && may_request request)) (Begins s t client request) (t ≡ passed s)
-EventDoes (Step client) s t = MatchBool (is_number client && is_at_work (actor_at s.slots client)) (ClientDoes s t client) (t ≡ passed s)
-EventDoes (MigrateStart j) s t = MatchBool (is_number j) (t ≡ given s (migrator_of j) (Migrator begin)) (t ≡ passed s)
-EventDoes (MigrateStep j) s t = MatchBool (is_number j && is_at_work (actor_at s.slots (migrator_of j))) (MoverDoes s t (migrator_of j)) (t ≡ passed s)
-EventDoes (MigrateCrash j) s t = MatchBool (is_number j) (t ≡ given s (migrator_of j) nobody) (t ≡ passed s)
-EventDoes (CleanStart j) s t = MatchBool (is_number j) (t ≡ given s (cleaner_of j) (Cleaner at.Walk)) (t ≡ passed s)
-EventDoes (CleanStep j) s t = MatchBool (is_number j && is_at_work (actor_at s.slots (cleaner_of j))) (MoverDoes s t (cleaner_of j)) (t ≡ passed s)
-EventDoes (CleanCrash j) s t = MatchBool (is_number j) (t ≡ given s (cleaner_of j) nobody) (t ≡ passed s)
-EventDoes Seal s t = (r : Result (Unit {0}) TurnFault) × Seals s t r
+EventDoes e s t = MatchBool (has_sense s e) (Does e s t) (t ≡ passed s)
 
 -- one event after the other
 abbrev pub Runs : List Event → Config → Config → Type 0

@@ -1,7 +1,9 @@
 //! Runs of schedules.
-ghost use Rattle.std.specs.Prelude.{◌≡◌, ◌≤◌, ◌+◌, IfOk, OnErr, length};
+ghost use Rattle.std.specs.Prelude.{IfOk, OnErr, length};
+ghost use Rattle.std.specs.List.{AllByRecursion};
 ghost use Rattle.mt_world.specs.Worlds.{IsWorld};
 ghost use Rattle.mt_sched.specs.Runs.{config_of, started, Runs, RunsTo, Breaks};
+ghost use Rattle.mt_sched.specs.Traces.{TellsOf, InRealTime, Leaves, IsMoved, CountsCalls};
 
 use crate::course::Course;
 use crate::trace::Trace;
@@ -39,9 +41,13 @@ pub fn run_schedule<K: Keeper>(
     events: Vec<Event>,
 ) -> Result<Trace, NoMemory>
     ensures runs { IfOk result (λ trace. RunsTo world.old events.items trace.done.items trace.moves.items world.new) }
+    ensures tells { IfOk result (λ trace. TellsOf world.old events.items trace.done.items world.new) }
+    ensures real_time { IfOk result (λ trace. InRealTime trace.done.items) }
+    ensures leaves { IfOk result (λ trace. Leaves world.old trace.done.items world.new) }
+    ensures moves { IfOk result (λ trace. AllByRecursion (IsMoved world.old world.new (length events.items)) trace.moves.items) }
+    ensures calls { IfOk result (λ trace. CountsCalls world.old world.new (length events.items) trace.calls) }
     ensures broke { OnErr result (Breaks world.old events.items world.new) }
     ensures world { IsWorld world.new }
-    ensures calls { IfOk result (λ trace. world.old.calls + trace.calls ≡ world.new.calls) }
 {
     let before = world.calls();
     let course = run_events(alloc, world, events);
