@@ -1,4 +1,4 @@
--- What a request asks for: operations, rows, a page, or a refusal.
+-- What a request asks for: operations, rows, a page, an order to the service, or a refusal.
 use Rattle.std.specs.Prelude.{◌≡◌, ◌⊎◌, ℕ, Bool, true, false, List, Option, Some, None}
 use Rattle.httparse.specs.Grammar.{RequestHead}
 use Rattle.mt_http_in.specs.declared.fields.Field.{Field}
@@ -19,7 +19,9 @@ use Rattle.mt_front.specs.declared.refusals.BadRequest.TheVariants.{InvalidUri, 
 use Rattle.mt_front.specs.declared.changes.Change.{Change}
 use Rattle.mt_front.specs.declared.changes.Change.TheVariants as change
 use Rattle.mt_front.specs.declared.asks.Asked.{Asked}
-use Rattle.mt_front.specs.declared.asks.Asked.TheVariants.{Refused}
+use Rattle.mt_front.specs.declared.asks.Asked.TheVariants.{Admin, Refused}
+use Rattle.mt_front.specs.declared.services.Admin.TheVariants as order
+use Rattle.mt_front.specs.Services.{AsksSteps}
 use Rattle.mt_front.specs.Changes.{AsksChange}
 use Rattle.mt_front.specs.ChangeSets.{alone, AsksChanges}
 use Rattle.mt_front.specs.Reads.{AsksRow, AsksRows}
@@ -43,6 +45,9 @@ AsksOn table (route.Row pk rk) options fields bytes asked = AsksRow pk rk option
 AsksOn table route.Rows options fields bytes asked = AsksRows options fields asked
 AsksOn table route.Page options fields bytes asked = AsksPage options fields asked
 AsksOn table route.Changes options fields bytes asked = AsksChanges table fields bytes asked
+AsksOn table (route.Steps machine) options fields bytes asked = AsksSteps machine options asked
+AsksOn table route.Seal options fields bytes asked = asked ≡ Admin order.Seal
+AsksOn table route.Status options fields bytes asked = asked ≡ Admin order.Status
 
 -- the route's refusal refuses, or what the route asks for is asked; what is not refused has a route
 abbrev pub AsksBy : List ℕ → Option BadRequest → Option Route → List QueryOption → List Field → List ℕ → Asked → Type 0

@@ -11,7 +11,11 @@ pub mod PageReads
 pub mod PageReplies
 pub mod PageUnits
 pub mod Asks
+pub mod Services
+pub mod Reports
 pub mod Items
+pub mod Machines
+pub mod Migration
 pub mod Answers
 pub mod Spells
 pub mod Session

@@ -16,6 +16,7 @@ use Rattle.mt_front.specs.declared.refusals.BadRequest.TheVariants.{InvalidQuery
 use Rattle.mt_front.specs.declared.asks.Asked.{Asked}
 use Rattle.mt_front.specs.declared.asks.Asked.TheVariants as asked
 use Rattle.mt_front.specs.declared.pages.PageRead.{PageRead}
+use Rattle.mt_front.specs.Services.{MayOrder}
 use Rattle.mt_front.specs.Reads.{IsShown, TokenReads, FilteredBy}
 
 -- ---- how many rows
@@ -81,10 +82,11 @@ AsksPage options fields a =
 abbrev pub MayPage : PageRead → Type 0
 MayPage q = (1 ≤ q.top) × (q.top ≤ 1000) × IfSome q.token IsKeyedToken
 
--- so is a page that is asked for
+-- so is a page that is asked for, and an order
 abbrev pub MayTry : Asked → Type 0
 MayTry (asked.Page q) = MayPage q
 MayTry (asked.Write w) = Unit {0}
 MayTry (asked.Read q) = Unit {0}
+MayTry (asked.Admin order) = MayOrder order
 MayTry (asked.Refused r) = Unit {0}
 MayTry (asked.RefusedPart r) = Unit {0}

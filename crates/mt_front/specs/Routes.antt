@@ -4,6 +4,7 @@ use Rattle.std.specs.List.{list_any, starts_with}
 use Rattle.std.specs.Option.{is_some}
 use Rattle.mt_model.specs.TableName.{is_same_table}
 use Rattle.mt_target.specs.declared.target.Keys.TheVariants as keys
+use Rattle.mt_target.specs.declared.target.Service.{Service}
 use Rattle.mt_target.specs.declared.target.Service.TheVariants as service
 use Rattle.mt_target.specs.declared.target.Target.{Target}
 use Rattle.mt_target.specs.declared.target.Target.TheVariants as target
@@ -13,6 +14,7 @@ use Rattle.mt_target.specs.Targets.{SpellsIt}
 use Rattle.mt_target.specs.Options.{has_option, has_repeat}
 use Rattle.mt_front.specs.declared.methods.Method.{Method}
 use Rattle.mt_front.specs.declared.methods.Method.TheVariants.{Post, Get}
+use Rattle.mt_front.specs.declared.services.Machine.TheVariants.{Migrator, Cleaner}
 use Rattle.mt_front.specs.declared.routes.RowWrite.{RowWrite}
 use Rattle.mt_front.specs.declared.routes.RowWrite.TheVariants as row
 use Rattle.mt_front.specs.declared.routes.Route.{Route}
@@ -38,10 +40,19 @@ read_by false (target.Table name keys.Empty) = Some route.Page
 read_by atomic (target.Table name (keys.Entity pk rk)) = Some (route.Row pk rk)
 read_by atomic t = None
 
+-- what a method of the service names
+abbrev pub service_route : Service → Option Method → Option Route
+service_route service.Batch (Some Post) = Some route.Changes
+service_route service.Migrate (Some Post) = Some (route.Steps Migrator)
+service_route service.Clean (Some Post) = Some (route.Steps Cleaner)
+service_route service.Seal (Some Post) = Some route.Seal
+service_route service.Status (Some Get) = Some route.Status
+service_route s m = None
+
 -- the methods of targets whose machines are built; each later one adds its row
 abbrev pub route_by : Bool → Target → Option Method → Option Route
+route_by atomic (target.Service s) m = service_route s m
 route_by atomic t (Some Get) = read_by atomic t
-route_by atomic (target.Service service.Batch) (Some Post) = Some route.Changes
 route_by atomic t m = option_map route.Write (write_by t m)
 
 -- it has a route; whether a table is read at one time or by pages is the same here

@@ -20,6 +20,9 @@ use Rattle.mt_front.specs.Refusals.{head_refusal, bad_reply, memory_reply}
 use Rattle.mt_front.specs.Items.{Item, AllKeep, LastCloses}
 use Rattle.mt_front.specs.Answers.{Past, Counts, FitsConnection, AreCausedTo, past_end}
 use Rattle.mt_front.specs.Spells.{SpellsAll}
+use Rattle.mt_front.specs.declared.machines.Machines.{Machines}
+use Rattle.mt_front.specs.Machines.{all_begun, ItemsDo, GoesForward}
+use Rattle.mt_front.specs.Migration.{Migrates}
 
 -- ---- what is written
 
@@ -45,12 +48,11 @@ past_of w = record { window = window_of w; limit = w.history.limit }
 abbrev pub counts_of : WorldState → Counts
 counts_of w = record { old_store = w.old_store.faults; new_store = w.new_store.faults }
 
--- entries were added, and all of them are the caller's; the world is as retired as before
+-- entries were added, and all of them are the caller's
 pub record Added (c : ℕ) (w w' : WorldState) : Type 0 where
   pub more : List Entry
   pub grew : w'.history.entries ≡ w.history.entries ++ more
   pub own : All (λ e. e.caller ≡ c) more
-  pub retired : w'.retired ≡ w.retired
 
 -- each store that tells afterwards told before
 pub record ToldBefore (w w' : WorldState) : Type 0 where
@@ -64,6 +66,15 @@ pub record Talk (c : ℕ) (w : WorldState) (items : List Item) (broken : List Ma
   pub told : ToldBefore w w'
   pub added : Added c w w'
   pub caused : AreCausedTo (counts_of w) items broken (counts_of w')
+
+-- ---- the migration
+
+-- the items did this one after the other, from machines at their beginning, to the world that they left; an item that broke off behind them has undone nothing
+pub record Ran (c : ℕ) (w : WorldState) (items : List Item) (w' : WorldState) : Type 0 where
+  pub left : WorldState
+  pub machines : Machines
+  pub did : ItemsDo c w all_begun items left machines
+  pub behind : GoesForward left w'
 
 -- ---- how a session ends
 
@@ -183,6 +194,8 @@ pub record Serves (c : ℕ) (table : List ℕ) (w : WorldState) (s : Input) (o :
   pub course : Course
   pub is_course : IsCourse table s course
   pub talk : Talk c w course.items course.broken w'
+  pub ran : Ran c w course.items w'
+  pub migrates : Migrates w course.items w'
   pub breaks : MayBreak r course.broken
   pub ends : SessionAs s o course r t x
   pub faults : s.faults ≤ t.faults

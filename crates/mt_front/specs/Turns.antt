@@ -40,9 +40,12 @@ use Rattle.mt_front.specs.Asks.{RequestAsks, WholeAsks, request_by, request_of}
 use Rattle.mt_world.specs.Moves.{NewEntry}
 use Rattle.mt_world.specs.WholeCalls.{Mark, batch_entry, query_entry}
 use Rattle.mt_front.specs.PageUnits.{LeavesPage}
+use Rattle.mt_front.specs.declared.machines.Machines.{Machines}
+use Rattle.mt_front.specs.Machines.{GoesForward, CallsWhole, CallDoes, ItemDoes}
+use Rattle.mt_front.specs.Migration.{Migrates}
 use Rattle.mt_front.specs.Items.{ItemOutcome, Done, Refused, Found, Paged, Fault, Full, Item, IsRendered, AllKeep, entries_of, need_of}
 use Rattle.mt_front.specs.Answers.{FitsFrom, BreaksOff, IsCaused, AtMost, past_end}
-use Rattle.mt_front.specs.Session.{Sent, Cut, past_of, counts_of, ToldBefore, Added, IsSaid, Course, IsCourse, Talk, MayBreak, SessionAs}
+use Rattle.mt_front.specs.Session.{Sent, Cut, past_of, counts_of, ToldBefore, Added, IsSaid, Course, IsCourse, Talk, Ran, MayBreak, SessionAs}
 
 -- ---- over the world
 
@@ -54,6 +57,7 @@ pub record BrokeOff (c : ℕ) (w : WorldState) (broken : List Mark) (w' : WorldS
   pub added : Added c w w'
   pub later : AtMost (counts_of w) (counts_of w')
   pub still : broken ≡ [] → counts_of w' ≡ counts_of w
+  pub forward : GoesForward w w'
 
 -- an item came out so in turns of caller c, each over the history that it found, which is the first part of what the history is afterwards
 pub record CameOut (c : ℕ) (w : WorldState) (i : Item) (w' : WorldState) : Type 0 where
@@ -123,6 +127,7 @@ pub record Tried (c : ℕ) (w : WorldState) (q : Request) (o : Outcome) (marks :
   pub came : (asks : Asked) (keep : Bool) (reply : List ℕ) → need_of asks ≡ Some (room_for q) → CameOut c w (tried_item asks o keep marks reply) w'
   pub caused : (asks : Asked) (keep : Bool) (reply : List ℕ) → IsCaused (counts_of w) (tried_item asks o keep marks reply) (counts_of w')
   pub added : Added c w w'
+  pub whole : CallsWhole c w q w'
 
 -- for want of memory it broke off
 abbrev pub Tries : ℕ → WorldState → Request → Result Outcome NoRoom → WorldState → Type 0
@@ -158,8 +163,8 @@ abbrev pub SaysMade : Output → Result Reply NoRoom → Result (Unit {0}) ConnF
 SaysMade o (Ok made) r x = SaysReply o (bytes_of made) r x
 SaysMade o (Err none) r x = (r ≡ Err NoMemory) × (x ≡ o)
 
--- what is asked was answered, with no other caller between, and with this result of writing the reply, behind which the connection goes on or ends
-pub record Answering (c : ℕ) (w : WorldState) (o : Output) (asks : Asked) (keep : Bool) (r : Result (Unit {0}) ConnFault) (w' : WorldState) (x : Output) : Type 0 where
+-- what is asked was answered, with no other caller between, and with this result of writing the reply, behind which the connection goes on or ends; the item did this
+pub record Answering (Did : Item → Type 0) (c : ℕ) (w : WorldState) (o : Output) (asks : Asked) (keep : Bool) (r : Result (Unit {0}) ConnFault) (w' : WorldState) (x : Output) : Type 0 where
   pub item : Item
   pub is_asked : item.asks ≡ asks
   pub keep_is : item.keep ≡ keep
@@ -167,18 +172,27 @@ pub record Answering (c : ℕ) (w : WorldState) (o : Output) (asks : Asked) (kee
   pub caused : IsCaused (counts_of w) item (counts_of w')
   pub added : Added c w w'
   pub rendered : IsRendered item
+  pub did : Did item
   pub replied : RepliedAs o item.reply r x
 
-abbrev pub AnswersAs : ℕ → WorldState → Output → Asked → Bool → Result (Unit {0}) ConnFault → WorldState → Output → Type 0
-AnswersAs c w o asks keep (Ok u) w' x = Answering c w o asks keep (Ok u) w' x
-AnswersAs c w o asks keep (Err ReadFault) w' x = ⊥
-AnswersAs c w o asks keep (Err WriteFault) w' x = Answering c w o asks keep (Err WriteFault) w' x
-AnswersAs c w o asks keep (Err NoMemory) w' x = (broken : List Mark) × BrokeOff c w broken w' × (x ≡ o)
+abbrev pub AnswersAs : (Item → Type 0) → ℕ → WorldState → Output → Asked → Bool → Result (Unit {0}) ConnFault → WorldState → Output → Type 0
+AnswersAs Did c w o asks keep (Ok u) w' x = Answering Did c w o asks keep (Ok u) w' x
+AnswersAs Did c w o asks keep (Err ReadFault) w' x = ⊥
+AnswersAs Did c w o asks keep (Err WriteFault) w' x = Answering Did c w o asks keep (Err WriteFault) w' x
+AnswersAs Did c w o asks keep (Err NoMemory) w' x = (broken : List Mark) × BrokeOff c w broken w' × (x ≡ o)
 
 -- the answer to what is asked
-pub record AnswersOne (c : ℕ) (w : WorldState) (o : Output) (asks : Asked) (keep : Bool) (r : Result (Unit {0}) ConnFault) (w' : WorldState) (x : Output) : Type 0 where
+pub record AnswersOne (Did : Item → Type 0) (c : ℕ) (w : WorldState) (o : Output) (asks : Asked) (keep : Bool) (r : Result (Unit {0}) ConnFault) (w' : WorldState) (x : Output) : Type 0 where
   pub faults_out : o.faults ≤ x.faults
-  pub answers : AnswersAs c w o asks keep r w' x
+  pub answers : AnswersAs Did c w o asks keep r w' x
+
+-- the answer to what is asked of the table, or refused
+abbrev pub AnswersCall : ℕ → WorldState → Output → Asked → Bool → Result (Unit {0}) ConnFault → WorldState → Output → Type 0
+AnswersCall c w o asks keep r w' x = AnswersOne (λ i. CallDoes c w i.asks w') c w o asks keep r w' x
+
+-- the answer to anything, beside the machines
+abbrev pub AnswersBeside : ℕ → WorldState → Machines → Output → Asked → Bool → Result (Unit {0}) ConnFault → WorldState → Machines → Output → Type 0
+AnswersBeside c w ms o asks keep r w' ms' x = AnswersOne (λ i. ItemDoes c w ms i w' ms') c w o asks keep r w' x
 
 -- ---- requests
 
@@ -188,21 +202,21 @@ turn_behind true = Answered
 turn_behind false = Ended Closed
 
 -- the request asks for something that was answered
-pub record AnswersWhole (c : ℕ) (table : List ℕ) (w : WorldState) (o : Output) (v : Incoming) (r : Result (Unit {0}) ConnFault) (w' : WorldState) (x : Output) : Type 0 where
+pub record AnswersWhole (c : ℕ) (table : List ℕ) (w : WorldState) (ms : Machines) (o : Output) (v : Incoming) (r : Result (Unit {0}) ConnFault) (w' : WorldState) (ms' : Machines) (x : Output) : Type 0 where
   pub asks : Asked
   pub is_asked : RequestAsks table (request_of v) asks
-  pub answering : Answering c w o asks v.keep r w' x
+  pub answering : Answering (λ i. ItemDoes c w ms i w' ms') c w o asks v.keep r w' x
 
-abbrev pub AnswersWholeAs : ℕ → List ℕ → WorldState → Output → Incoming → Result Turn ConnFault → WorldState → Output → Type 0
-AnswersWholeAs c table w o v (Ok turn) w' x = (turn ≡ turn_behind v.keep) × AnswersWhole c table w o v (Ok tt) w' x
-AnswersWholeAs c table w o v (Err ReadFault) w' x = ⊥
-AnswersWholeAs c table w o v (Err WriteFault) w' x = AnswersWhole c table w o v (Err WriteFault) w' x
-AnswersWholeAs c table w o v (Err NoMemory) w' x = (broken : List Mark) × BrokeOff c w broken w' × (x ≡ o)
+abbrev pub AnswersWholeAs : ℕ → List ℕ → WorldState → Machines → Output → Incoming → Result Turn ConnFault → WorldState → Machines → Output → Type 0
+AnswersWholeAs c table w ms o v (Ok turn) w' ms' x = (turn ≡ turn_behind v.keep) × AnswersWhole c table w ms o v (Ok tt) w' ms' x
+AnswersWholeAs c table w ms o v (Err ReadFault) w' ms' x = ⊥
+AnswersWholeAs c table w ms o v (Err WriteFault) w' ms' x = AnswersWhole c table w ms o v (Err WriteFault) w' ms' x
+AnswersWholeAs c table w ms o v (Err NoMemory) w' ms' x = (broken : List Mark) × BrokeOff c w broken w' × (x ≡ o)
 
 -- the answer to a request
-pub record AnswersRequest (c : ℕ) (table : List ℕ) (w : WorldState) (o : Output) (v : Incoming) (r : Result Turn ConnFault) (w' : WorldState) (x : Output) : Type 0 where
+pub record AnswersRequest (c : ℕ) (table : List ℕ) (w : WorldState) (ms : Machines) (o : Output) (v : Incoming) (r : Result Turn ConnFault) (w' : WorldState) (ms' : Machines) (x : Output) : Type 0 where
   pub faults_out : o.faults ≤ x.faults
-  pub answers : AnswersWholeAs c table w o v r w' x
+  pub answers : AnswersWholeAs c table w ms o v r w' ms' x
 
 -- what comes behind a refusal by that code: only a whole request whose body is compressed may leave the connection open
 abbrev pub turn_refused : Code → Bool → Turn
@@ -236,7 +250,7 @@ pub record AnswersFault (o : Output) (f : InFault) (r : Result Turn ConnFault) (
 -- ---- turns
 
 -- a request that was read, and answered behind its 100 Continue
-pub record OneMore (c : ℕ) (table kept : List ℕ) (s : Input) (o : Output) (w : WorldState) (keep : Bool) (r : Result (Unit {0}) ConnFault) (kept' : List ℕ) (t : Input) (x : Output) (w' : WorldState) : Type 0 where
+pub record OneMore (c : ℕ) (table kept : List ℕ) (s : Input) (o : Output) (w : WorldState) (ms : Machines) (keep : Bool) (r : Result (Unit {0}) ConnFault) (kept' : List ℕ) (t : Input) (x : Output) (w' : WorldState) (ms' : Machines) : Type 0 where
   pub head : RequestHead
   pub body : List ℕ
   pub between : Output
@@ -245,7 +259,7 @@ pub record OneMore (c : ℕ) (table kept : List ℕ) (s : Input) (o : Output) (w
   pub asks : Asked
   pub is_asked : WholeAsks table (request_by head body) asks
   pub keep_is : keep ≡ keeps_open head.minor (fields_of head)
-  pub answering : Answering c w between asks keep r w' x
+  pub answering : Answering (λ i. ItemDoes c w ms i w' ms') c w between asks keep r w' x
 
 -- a connection that ended so behind these answers; the reply that closes it counts, too
 abbrev pub served_of : ℕ → End → Served
@@ -269,20 +283,20 @@ pub record StarvedAt (known : Option (List ℕ)) (o x : Output) : Type 0 where
   pub sent : Sent o said x
 
 -- what one turn did, by its result
-abbrev pub TurnAs : ℕ → List ℕ → List ℕ → Input → Output → WorldState → Result Turn ConnFault → List ℕ → Input → Output → WorldState → Type 0
-TurnAs c table kept s o w (Ok Answered) kept' t x w' = OneMore c table kept s o w true (Ok tt) kept' t x w'
-TurnAs c table kept s o w (Ok (Ended AtEnd)) kept' t x w' = (ahead kept s ≡ ahead kept' t) × IfSome (ahead kept s) (λ all. all ≡ []) × (t.calls ≤ s.calls + 1) × (x ≡ o) × (w' ≡ w)
-TurnAs c table kept s o w (Ok (Ended Closed)) kept' t x w' = OneMore c table kept s o w false (Ok tt) kept' t x w'
-TurnAs c table kept s o w (Ok (Ended BadInput)) kept' t x w' = (owed : List ℕ) × IsRefusal kept s owed t × Sent o owed x × (w' ≡ w)
-TurnAs c table kept s o w (Err ReadFault) kept' t x w' = BrokeIn kept s o t x × (w' ≡ w)
-TurnAs c table kept s o w (Err WriteFault) kept' t x w' =
-    ((keep : Bool) × OneMore c table kept s o w keep (Err WriteFault) kept' t x w') ⊎ (BrokeOut kept s o kept' t x × (w' ≡ w)) ⊎ ((owed : List ℕ) × IsRefusal kept s owed t × Cut o owed x × (w' ≡ w))
-TurnAs c table kept s o w (Err NoMemory) kept' t x w' = (broken : List Mark) × BrokeOff c w broken w' × StarvedAt (ahead kept s) o x
+abbrev pub TurnAs : ℕ → List ℕ → List ℕ → Input → Output → WorldState → Machines → Result Turn ConnFault → List ℕ → Input → Output → WorldState → Machines → Type 0
+TurnAs c table kept s o w ms (Ok Answered) kept' t x w' ms' = OneMore c table kept s o w ms true (Ok tt) kept' t x w' ms'
+TurnAs c table kept s o w ms (Ok (Ended AtEnd)) kept' t x w' ms' = (ahead kept s ≡ ahead kept' t) × IfSome (ahead kept s) (λ all. all ≡ []) × (t.calls ≤ s.calls + 1) × (x ≡ o) × (w' ≡ w)
+TurnAs c table kept s o w ms (Ok (Ended Closed)) kept' t x w' ms' = OneMore c table kept s o w ms false (Ok tt) kept' t x w' ms'
+TurnAs c table kept s o w ms (Ok (Ended BadInput)) kept' t x w' ms' = (owed : List ℕ) × IsRefusal kept s owed t × Sent o owed x × (w' ≡ w)
+TurnAs c table kept s o w ms (Err ReadFault) kept' t x w' ms' = BrokeIn kept s o t x × (w' ≡ w)
+TurnAs c table kept s o w ms (Err WriteFault) kept' t x w' ms' =
+    ((keep : Bool) × OneMore c table kept s o w ms keep (Err WriteFault) kept' t x w' ms') ⊎ (BrokeOut kept s o kept' t x × (w' ≡ w)) ⊎ ((owed : List ℕ) × IsRefusal kept s owed t × Cut o owed x × (w' ≡ w))
+TurnAs c table kept s o w ms (Err NoMemory) kept' t x w' ms' = (broken : List Mark) × BrokeOff c w broken w' × StarvedAt (ahead kept s) o x
 
-pub record SessionTurn (c : ℕ) (table kept : List ℕ) (s : Input) (o : Output) (w : WorldState) (r : Result Turn ConnFault) (kept' : List ℕ) (t : Input) (x : Output) (w' : WorldState) : Type 0 where
+pub record SessionTurn (c : ℕ) (table kept : List ℕ) (s : Input) (o : Output) (w : WorldState) (ms : Machines) (r : Result Turn ConnFault) (kept' : List ℕ) (t : Input) (x : Output) (w' : WorldState) (ms' : Machines) : Type 0 where
   pub later : Later s t
   pub faults_out : o.faults ≤ x.faults
-  pub turn : TurnAs c table kept s o w r kept' t x w'
+  pub turn : TurnAs c table kept s o w ms r kept' t x w' ms'
 
 -- ---- a session before want of memory is told
 
@@ -303,6 +317,8 @@ pub record Converses (c : ℕ) (table : List ℕ) (w : WorldState) (s : Input) (
   pub course : Course
   pub is_course : IsCourse table s course
   pub talk : Talk c w course.items course.broken w'
+  pub ran : Ran c w course.items w'
+  pub migrates : Migrates w course.items w'
   pub breaks : MayBreak r course.broken
   pub ends : ConversesAs s o course r t x
   pub faults : s.faults ≤ t.faults

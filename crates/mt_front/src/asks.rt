@@ -13,6 +13,7 @@ use crate::pages::{PageRead, asked_of_page};
 use crate::reads::{Read, asked_of_row, asked_of_rows};
 use crate::refusals::{BadPart, BadRequest};
 use crate::routes::{Route, route_by, route_refusal};
+use crate::services::{Admin, asked_of_steps};
 use crate::writes::{Writes, write_alone};
 use mt_http_in::{Field, Incoming};
 use mt_model::{NoMemory, Text};
@@ -30,6 +31,9 @@ pub enum Asked {
 
     /// A page of the table.
     Page(PageRead),
+
+    /// An order to the service.
+    Admin(Admin),
 
     /// Nothing that can be tried.
     Refused(BadRequest),
@@ -69,6 +73,9 @@ fn asked_on(
         Route::Rows => asked_of_rows(alloc, options, fields),
         Route::Page => asked_of_page(alloc, options, fields),
         Route::Changes => asked_of_changes(alloc, table, fields, bytes),
+        Route::Steps(machine) => Ok(asked_of_steps(machine, options)),
+        Route::Seal => Ok(Asked::Admin(Admin::Seal)),
+        Route::Status => Ok(Asked::Admin(Admin::Status)),
     }
 }
 
@@ -93,12 +100,12 @@ fn asked_at(
     }
 }
 
-/// What a request on the table asks for: operations, rows, a page, or the first refusal. First comes the
+/// What a request on the table asks for: operations, rows, a page, an order, or the first refusal. First comes the
 /// target: one that spells nothing is refused, then what is not supported, another table's name, a
 /// method that the resource does not have, and an option's name that stands twice. Then come the
 /// refusals of what the route asks for: of one operation as `change_by` has them, of a change set as
-/// `asked_of_changes`, of a read as `asked_of_row`, `asked_of_rows` and `asked_of_page`. The one error
-/// is want of memory.
+/// `asked_of_changes`, of a read as `asked_of_row`, `asked_of_rows` and `asked_of_page`, of turns of a
+/// machine as `asked_of_steps`. The one error is want of memory.
 pub fn asked_by(alloc: Global, table: &Text, request: Incoming) -> Result<Asked, NoMemory>
     ensures { IfOk result (RequestAsks table.now (request_of request)) }
 {

@@ -6,9 +6,12 @@ ghost use Rattle.mt_front.specs.Session.{Serves};
 ghost use Rattle.mt_world.specs.Moves.{MayRequest};
 ghost use Rattle.mt_http_out.specs.Rendering.{bytes_of, IsReply};
 ghost use Rattle.mt_front.specs.Refusals.{bad_reply, fault_reply, full_reply};
-ghost use Rattle.mt_front.specs.Turns.{Tries, WritesReply, SaysReply, SaysMade, Converses, AnswersOne, AnswersRequest, AnswersFault, RefusesAs, turn_behind, turn_refused, served_of, SessionTurn};
+ghost use Rattle.mt_front.specs.Machines.{IsHeld};
+ghost use Rattle.mt_front.specs.Services.{MayOrder};
+ghost use Rattle.mt_front.specs.Turns.{Tries, WritesReply, SaysReply, SaysMade, Converses, AnswersCall, AnswersBeside, AnswersRequest, AnswersFault, RefusesAs, turn_behind, turn_refused, served_of, SessionTurn};
 
 use crate::asks::{Asked, asked_by};
+use crate::machines::{CALLER, Machines};
 use crate::page_replies::page_reply;
 use crate::pages::PageRead;
 use crate::reads::{Read, rows_reply};
@@ -16,6 +19,8 @@ use crate::refusals::{
     BadRequest, bad_part, bad_request, head_refusal, history_full, no_memory, refusal_reply,
     store_fault,
 };
+use crate::reports::report_reply;
+use crate::services::Admin;
 use crate::writes::Writes;
 use mt_chain::{Keeper, Refusal, Tags};
 use mt_http_in::{Code, InFault, Incoming, Reader, read_request};
@@ -91,9 +96,6 @@ enum Turn {
     /// The session ended.
     Ended(End),
 }
-
-/// The number of the one caller of a world's session.
-const CALLER: u32 = 0;
 
 /// Writes the bytes of a reply. It takes no memory.
 fn send_bytes<T: Sink>(sink: &mut T, bytes: &[u8]) -> Result<(), ConnFault>
@@ -197,7 +199,7 @@ fn write_rows<K: Keeper, T: Sink>(
     writes: Writes,
     keep: bool,
 ) -> Result<(), ConnFault>
-    ensures { AnswersOne 0 world.old (T.output sink.old) (asked.Write writes) keep result world.new (T.output sink.new) }
+    ensures { AnswersCall 0 world.old (T.output sink.old) (asked.Write writes) keep result world.new (T.output sink.new) }
 {
     let close = !keep;
     let change_set = writes.is_change_set();
@@ -226,7 +228,7 @@ fn read_rows<K: Keeper, T: Sink>(
     read: Read,
     keep: bool,
 ) -> Result<(), ConnFault>
-    ensures { AnswersOne 0 world.old (T.output sink.old) (asked.Read read) keep result world.new (T.output sink.new) }
+    ensures { AnswersCall 0 world.old (T.output sink.old) (asked.Read read) keep result world.new (T.output sink.new) }
 {
     let close = !keep;
     let Read {
@@ -262,7 +264,7 @@ fn read_page<K: Keeper, T: Sink>(
     keep: bool,
 ) -> Result<(), ConnFault>
     requires { MayPage read }
-    ensures { AnswersOne 0 world.old (T.output sink.old) (asked.Page read) keep result world.new (T.output sink.new) }
+    ensures { AnswersCall 0 world.old (T.output sink.old) (asked.Page read) keep result world.new (T.output sink.new) }
 {
     let close = !keep;
     let PageRead {
@@ -282,22 +284,48 @@ fn read_page<K: Keeper, T: Sink>(
     }
 }
 
+/// Does what is ordered, and writes the reply that tells it.
+fn administer<K: Keeper, T: Sink>(
+    alloc: Global,
+    world: &mut World<K>,
+    machines: &mut Machines,
+    out: &mut Vec<u8>,
+    sink: &mut T,
+    order: Admin,
+    keep: bool,
+) -> Result<(), ConnFault>
+    requires may { MayOrder order }
+    requires held { IsHeld world.old machines.old }
+    ensures { AnswersBeside 0 world.old machines.old (T.output sink.old) (asked.Admin order) keep result world.new machines.new (T.output sink.new) }
+{
+    let close = !keep;
+    match machines.administer(alloc, world, order) {
+        Ok(report) => send_reply(out, sink, report_reply(alloc, report, close)),
+        Err(TurnFault::StoreFault) => send_fault(alloc, out, sink, close),
+        Err(TurnFault::HistoryFull) => send_full(alloc, out, sink, close),
+        Err(TurnFault::NoMemory) => Err(ConnFault::NoMemory),
+    }
+}
+
 /// Answers what is asked for.
 fn answer<K: Keeper, T: Sink>(
     alloc: Global,
     world: &mut World<K>,
+    machines: &mut Machines,
     out: &mut Vec<u8>,
     sink: &mut T,
     asks: Asked,
     keep: bool,
 ) -> Result<(), ConnFault>
-    requires { MayTry asks }
-    ensures { AnswersOne 0 world.old (T.output sink.old) asks keep result world.new (T.output sink.new) }
+    requires may { MayTry asks }
+    requires held { IsHeld world.old machines.old }
+    ensures { AnswersBeside 0 world.old machines.old (T.output sink.old) asks keep result world.new machines.new (T.output sink.new) }
 {
     match asks {
         Asked::Write(writes) => write_rows(alloc, world, out, sink, writes, keep),
         Asked::Read(read) => read_rows(alloc, world, out, sink, read, keep),
         Asked::Page(read) => read_page(alloc, world, out, sink, read, keep),
+        Asked::Admin(order) => administer(alloc, world, machines, out, sink, order, keep),
         Asked::Refused(refusal) => send_refusal(alloc, out, sink, refusal, !keep),
         Asked::RefusedPart(bad) => send_reply(out, sink, bad_part(alloc, bad, !keep)),
     }
@@ -318,18 +346,20 @@ fn turn_behind(keep: bool) -> Turn
 fn answer_request<K: Keeper, T: Sink>(
     alloc: Global,
     world: &mut World<K>,
+    machines: &mut Machines,
     table: &Text,
     out: &mut Vec<u8>,
     sink: &mut T,
     request: Incoming,
 ) -> Result<Turn, ConnFault>
-    ensures { AnswersRequest 0 table.now world.old (T.output sink.old) request result world.new (T.output sink.new) }
+    requires { IsHeld world.old machines.old }
+    ensures { AnswersRequest 0 table.now world.old machines.old (T.output sink.old) request result world.new machines.new (T.output sink.new) }
 {
     let keep = request.keep;
     let Ok(asks) = asked_by(alloc, table, request) else {
         return Err(ConnFault::NoMemory);
     };
-    match answer(alloc, world, out, sink, asks, keep) {
+    match answer(alloc, world, machines, out, sink, asks, keep) {
         Ok(()) => Ok(turn_behind(keep)),
         Err(fault) => Err(fault),
     }
@@ -384,17 +414,19 @@ fn answer_fault<T: Sink>(
 fn take_turn<K: Keeper, S: Source, T: Sink>(
     alloc: Global,
     world: &mut World<K>,
+    machines: &mut Machines,
     table: &Text,
     reader: &mut Reader,
     source: &mut S,
     out: &mut Vec<u8>,
     sink: &mut T,
 ) -> Result<Turn, ConnFault>
-    ensures { SessionTurn 0 table.now reader.old (S.input source.old) (T.output sink.old) world.old result
-        reader.new (S.input source.new) (T.output sink.new) world.new }
+    requires { IsHeld world.old machines.old }
+    ensures { SessionTurn 0 table.now reader.old (S.input source.old) (T.output sink.old) world.old machines.old result
+        reader.new (S.input source.new) (T.output sink.new) world.new machines.new }
 {
     match read_request(alloc, reader, source, sink) {
-        Ok(Some(request)) => answer_request(alloc, world, table, out, sink, request),
+        Ok(Some(request)) => answer_request(alloc, world, machines, table, out, sink, request),
         Ok(None) => Ok(Turn::Ended(End::Input)),
         Err(fault) => answer_fault(alloc, out, sink, fault),
     }
@@ -425,9 +457,19 @@ fn converse<K: Keeper, S: Source, T: Sink>(
     let Ok(mut reader) = Reader::new(alloc) else {
         return Err(ConnFault::NoMemory);
     };
+    let mut machines = Machines::new(alloc);
     let mut out = Vec::new(alloc);
     'requests: for requests in 0..u64::MAX {
-        match take_turn(alloc, world, table, &mut reader, source, &mut out, sink) {
+        match take_turn(
+            alloc,
+            world,
+            &mut machines,
+            table,
+            &mut reader,
+            source,
+            &mut out,
+            sink,
+        ) {
             Ok(Turn::Answered) => {}
             Ok(Turn::Ended(end)) => return Ok(served_of(requests, end)),
             Err(fault) => return Err(fault),
@@ -441,7 +483,8 @@ fn converse<K: Keeper, S: Source, T: Sink>(
 /// first fault of reading, of writing or of memory. It reads as `mt_http_in::read_request` does.
 ///
 /// Each whole request is answered from the world: refused before anything is tried, done, refused by
-/// the table, or answered with 500 where a store failed and with 507 where the history is full. What
+/// the table, or answered with 500 where a store failed and with 507 where the history is full. The
+/// connection has one migrator and one cleaner, which take the turns that its requests ask for. What
 /// is no whole request is refused, and the connection ends. The last reply before a connection ends
 /// has `Connection: close` as its last field. Each reply is written at once. All memory for the reply
 /// to a write that is done is taken before its first store call, so that it is answered. Where there

@@ -400,8 +400,8 @@ fn error_with(
     })
 }
 
-/// A reply of that status with that error object.
-fn error_reply(
+/// A reply of that status with that error object. The one error is want of memory.
+pub fn error_reply(
     alloc: Global,
     status: u16,
     code: &str,

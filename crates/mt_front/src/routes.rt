@@ -1,9 +1,10 @@
 //! The route of a request, from its target and its method, and the refusals that come before it.
 ghost use Rattle.std.specs.Prelude.{◌≡◌, IfOk};
-ghost use Rattle.mt_front.specs.Routes.{is_system, is_of_row, is_of_rows, is_known, has_unknown, is_list_of_tables, is_built, is_unsupported, is_service, is_no_change, names_another, refusal_by, route_refusal, change_refusal, write_by, read_by, route_by};
+ghost use Rattle.mt_front.specs.Routes.{is_system, is_of_row, is_of_rows, is_known, has_unknown, is_list_of_tables, is_built, is_unsupported, is_service, is_no_change, names_another, refusal_by, route_refusal, change_refusal, write_by, read_by, service_route, route_by};
 
 use crate::methods::{Action, Method, action_of, resource_of};
 use crate::refusals::BadRequest;
+use crate::services::Machine;
 use mt_model::{NoMemory, Text, is_same_table};
 use mt_target::{Keys, QueryOption, Service, Spelled, Target, has_option, has_repeat};
 use std::alloc::Global;
@@ -35,6 +36,15 @@ pub enum Route {
 
     /// `POST` on `/$batch`.
     Changes,
+
+    /// `POST` on `/$mt/migrate` or `/$mt/clean`: turns of a machine.
+    Steps(Machine),
+
+    /// `POST` on `/$mt/seal`.
+    Seal,
+
+    /// `GET` on `/$mt/status`.
+    Status,
 }
 
 /// Whether this is a system option of OData, whose name begins with a dollar sign.
@@ -108,8 +118,10 @@ fn is_built(target: &Target, method: Option<Method>) -> bool
         },
         Target::Tables => false,
         Target::Service(service) => match service {
-            Service::Batch => matches!(method, Method::Post),
-            Service::Migrate | Service::Clean | Service::Seal | Service::Status => false,
+            Service::Batch | Service::Migrate | Service::Clean | Service::Seal => {
+                matches!(method, Method::Post)
+            }
+            Service::Status => matches!(method, Method::Get),
         },
     }
 }
@@ -256,18 +268,44 @@ fn read_by(atomic: bool, target: Target) -> Option<Route>
     }
 }
 
+/// The route that the method of the service names, where it is built.
+fn service_route(service: Service, method: Option<Method>) -> Option<Route>
+    ensures { result ≡ service_route service method }
+{
+    let method = method?;
+    match service {
+        Service::Status => match method {
+            Method::Get => Some(Route::Status),
+            _ => None,
+        },
+        Service::Batch => match method {
+            Method::Post => Some(Route::Changes),
+            _ => None,
+        },
+        Service::Migrate => match method {
+            Method::Post => Some(Route::Steps(Machine::Migrator)),
+            _ => None,
+        },
+        Service::Clean => match method {
+            Method::Post => Some(Route::Steps(Machine::Cleaner)),
+            _ => None,
+        },
+        Service::Seal => match method {
+            Method::Post => Some(Route::Seal),
+            _ => None,
+        },
+    }
+}
+
 /// The route that the target and the method name, where it is built.
 pub fn route_by(atomic: bool, target: Target, method: Option<Method>) -> Option<Route>
     ensures { result ≡ route_by atomic target method }
 {
+    if let Target::Service(service) = target {
+        return service_route(service, method);
+    }
     if let Some(Method::Get) = method {
         return read_by(atomic, target);
-    }
-    if let Target::Service(Service::Batch) = target {
-        return match method {
-            Some(Method::Post) => Some(Route::Changes),
-            _ => None,
-        };
     }
     match write_by(target, method) {
         Some(write) => Some(Route::Write(write)),
