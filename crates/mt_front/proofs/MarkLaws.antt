@@ -1,12 +1,14 @@
--- Turns of a client's call with no other caller between them: each finds the history as the one before it left it.
+-- Turns of one actor with no other caller between them: each finds the history as the one before it left it.
 use Rattle.std.proofs.Common.{◌≡◌, ℕ, ◌+◌, Bool, true, false, not, List, [], ◌∷◌, ◌++◌, length, Option, Some, None, Ok, Err, refl, sym, ap, ◌∙◌, subst, arith, inl, inr, append_assoc, append-nil, length-append}
 use Rattle.std.specs.Prelude.{Result, ◌||◌, is_some, IfSome, All}
 use Rattle.std.specs.List.{list_any}
 use Rattle.std.proofs.lemmas.List.Elements.{All-nil, All-cons, All-append}
 use Rattle.mt_chain.specs.declared.ask.Ask.{Ask}
+use Rattle.mt_chain.specs.declared.ask.Ask.TheVariants as ask
 use Rattle.mt_chain.specs.declared.ask.Side.{Side}
 use Rattle.mt_chain.specs.declared.ask.Side.TheVariants.{Old, New}
 use Rattle.mt_chain.specs.declared.ask.StoreReply.{StoreReply}
+use Rattle.mt_chain.specs.declared.ask.StoreReply.TheVariants as store
 use Rattle.mt_chain.specs.declared.ask.CallFault.{CallFault}
 use Rattle.mt_chain.specs.declared.ask.CallFault.TheVariants as call_fault
 use Rattle.mt_chain.specs.StoreCall.{Contents}
@@ -15,9 +17,11 @@ use Rattle.mt_chain.specs.Asks.{Means, CallShows}
 use Rattle.mt_chain.specs.Batch.{batch_weight}
 use Rattle.mt_chain.specs.Table.{table_of, rows_of}
 use Rattle.mt_history.specs.declared.entry.Entry.{Entry}
+use Rattle.mt_history.specs.declared.entry.What.TheVariants as what
+use Rattle.mt_history.specs.declared.model.Reply.TheVariants as reply
 use Rattle.mt_history.specs.Kept.{has_room}
 use Rattle.mt_history.specs.Replies.{Replies}
-use Rattle.mt_history.specs.Weight.{need_of_query, need_of_page}
+use Rattle.mt_history.specs.Weight.{need_of_query, need_of_page, need_of_move}
 use Rattle.mt_scan.specs.declared.unit.PageProgress.{PageProgress}
 use Rattle.mt_scan.specs.declared.unit.PageProgress.TheVariants as page
 use Rattle.mt_scan.specs.Pages as pages
@@ -34,7 +38,10 @@ use Rattle.mt_world.specs.Worlds.{WorldState, Tells, table_now, entry_of}
 use Rattle.mt_world.specs.Moves.{NewEntry, need_of}
 use Rattle.mt_world.specs.Logs.{entries_with}
 use Rattle.mt_world.specs.Turns.{IsSameWorld, RepliesAt, CallsOn, NoCall, Moves, stage_of, is_full}
-use Rattle.mt_world.specs.WholeCalls.{Mark, MarkedTurn, Finishes, AreMarksAt, last_turn, end_of}
+use Rattle.mt_world.specs.WholeCalls.{Mark, MarkedTurn, Finishes, TakesTurns, AreMarksAt, last_turn, end_of, is_client, entry_at_end}
+use Rattle.mt_world.specs.Sealing.{SealsOld, CallsSeal, seal_entry}
+use Rattle.mt_world.proofs.PairLaws.{for_pair, called, not_called}
+use Rattle.mt_world.proofs.StepsLaws.{steps_answer}
 use Rattle.mt_world.proofs.TurnLaws.{moved}
 use Rattle.mt_world.proofs.PageEntries.{same_unit}
 use Rattle.mt_world.proofs.PageFinish.{page_goes_on}
@@ -42,7 +49,7 @@ use Rattle.mt_world.proofs.FinishLaws.{goes_on, query_goes_on, full_last, mark_i
 use Rattle.mt_front.specs.Answers.{Past, AtMost, RepliesFound, AreNextMarks, past_end, found, table_found, place_behind, behind}
 use Rattle.mt_front.specs.Session.{past_of, counts_of, ToldBefore, Added}
 use Rattle.mt_front.proofs.FitLaws.{grown, marks_sooner, marks_more, room_more}
-use Rattle.mt_front.proofs.OwnLaws.{AreOwn, or_none, own_long, room_at, marks_at, table_at}
+use Rattle.mt_front.proofs.OwnLaws.{AreOwn, or_none, own_long, room_at, marks_at, table_at, behind_at}
 use Rattle.mt_front.proofs.CauseLaws.{most_then}
 
 -- ---- worlds that differ in their history and their counts alone
@@ -135,30 +142,35 @@ pub record Marked (c need : ℕ) (full : Bool) (w : WorldState) (marks : List Ma
   pub added : Added c w w'
   pub later : AtMost (counts_of w) (counts_of w')
 
--- one turn of a client's call
-turn_marked : (c need : ℕ) (w v : WorldState) (call : ClientCall) (b : Actor) (r : Result Progress TurnFault) (m : Mark) → need_of (Client call) ≡ need → MarkedTurn m w c (Client call) r v b → Marked c need (is_full r) w (m ∷ []) v
-turn_marked c need w v call b r m same_need h =
-    let e : Option NewEntry = m.entry in
+-- turns that need so much room, all of which found the same end, and of which the last left this entry, or none
+pub alike_marked : (c need : ℕ) (full : Bool) (w v : WorldState) (e : Option NewEntry) (marks : List Mark) → IsSameWorld w v → ToldBefore w v → v.history.entries ≡ entries_with w.history.entries w.numbers c e → RepliesAt w e v
+    → full ≡ not (has_room w.history need) → AreMarksAt (past_end (past_of w)) e marks → AtMost (counts_of w) (counts_of v) → Marked c need full w marks v
+alike_marked c need full w v e marks same told entries replies room at later =
     let more : (own : List Entry) × (entries_with w.history.entries w.numbers c e ≡ w.history.entries ++ own) × AreOwn c e own = added_by w.history.entries w.numbers c e in
     let own : List Entry = more.0 in
-    let grew : v.history.entries ≡ w.history.entries ++ own = h.turn.adds.entries ∙ more.1 in
-    let is : past_of v ≡ grown (past_of w) own = past_grown w v own h.turn.same grew in
-    let at : AreMarksAt (past_end (past_of w)) e (m ∷ []) = mark_is m (end_of w) e h.place refl in
-    let k = moved (stage_of w) (stage_of v) (Client call) b r e h.turn.moves in
+    let grew : v.history.entries ≡ w.history.entries ++ own = entries ∙ more.1 in
+    let is : past_of v ≡ grown (past_of w) own = past_grown w v own same grew in
     record {
-      same = h.turn.same;
-      told = moved_told w v (Client call) b r e h.turn.moves;
-      marks_are = subst (λ p. AreNextMarks c (Tells v) p (past_end (past_of w)) (m ∷ [])) (sym is)
-          (marks_at c (Tells v) (past_of w) e own more.2 (replies_then w v e (grown (past_of w) own) (table_at c (Tells v) (past_of w) e own more.2) h.turn.replies) (m ∷ []) at);
-      ends = ap (λ (n : Mark). place_behind n.place n.entry) at ∙ sym (own_long c e own (past_end (past_of w)) more.2) ∙ end_grown own ∙ sym (ap past_end is);
-      room = h.turn.full ∙ ap (λ n. not (has_room w.history n)) same_need ∙ sym (room_at c (Tells v) (past_of w) e own more.2 need (m ∷ []) at)
-          ∙ ap (λ p. list_any (λ (n : Mark). not (has_room (found p n.place) need)) (m ∷ [])) (sym is);
-      added = record { more = own; grew = grew; own = own_callers c e own more.2; retired = h.turn.retired };
-      later = record { old_store = k.old_faults; new_store = k.new_faults };
+      same = same;
+      told = told;
+      marks_are = subst (λ p. AreNextMarks c (Tells v) p (past_end (past_of w)) marks) (sym is)
+          (marks_at c (Tells v) (past_of w) e own more.2 (replies_then w v e (grown (past_of w) own) (table_at c (Tells v) (past_of w) e own more.2) replies) marks at);
+      ends = behind_at c (Tells v) (past_of w) e own more.2 marks at ∙ sym (own_long c e own (past_end (past_of w)) more.2) ∙ end_grown own ∙ sym (ap past_end is);
+      room = room ∙ sym (room_at c (Tells v) (past_of w) e own more.2 need marks at)
+          ∙ ap (λ p. list_any (λ (n : Mark). not (has_room (found p n.place) need)) marks) (sym is);
+      added = record { more = own; grew = grew; own = own_callers c e own more.2 };
+      later = later;
     }
   where
     end_grown : (own : List Entry) → past_end (past_of w) + length own ≡ past_end (grown (past_of w) own)
     end_grown own = let long : length (w.history.entries ++ own) ≡ length w.history.entries + length own = length-append w.history.entries own in omega (arith, long)
+
+-- one turn of a client's call
+turn_marked : (c need : ℕ) (w v : WorldState) (call : ClientCall) (b : Actor) (r : Result Progress TurnFault) (m : Mark) → need_of (Client call) ≡ need → MarkedTurn m w c (Client call) r v b → Marked c need (is_full r) w (m ∷ []) v
+turn_marked c need w v call b r m same_need h =
+    let k = moved (stage_of w) (stage_of v) (Client call) b r m.entry h.turn.moves in
+    alike_marked c need (is_full r) w v m.entry (m ∷ []) h.turn.same (moved_told w v (Client call) b r m.entry h.turn.moves) h.turn.adds.entries h.turn.replies
+    (h.turn.full ∙ ap (λ n. not (has_room w.history n)) same_need) (mark_is m (end_of w) m.entry h.place refl) (record { old_store = k.old_faults; new_store = k.new_faults })
 
 -- a turn that found room, and then the rest
 marked_then : (c need : ℕ) (full : Bool) (w v w' : WorldState) (m : Mark) (marks : List Mark) → Marked c need false w (m ∷ []) v → Marked c need full v marks w' → Marked c need full w (m ∷ marks) w'
@@ -178,7 +190,6 @@ marked_then c need full w v w' m marks first rest =
         more = first.added.more ++ rest.added.more;
         grew = rest.added.grew ∙ ap (λ l. l ++ rest.added.more) first.added.grew ∙ append_assoc w.history.entries first.added.more rest.added.more;
         own = All-append (λ (e : Entry). e.caller ≡ c) first.added.more rest.added.more first.added.own rest.added.own;
-        retired = rest.added.retired ∙ first.added.retired;
       };
       later = most_then (counts_of w) (counts_of v) (counts_of w') first.later rest.later;
     }
@@ -213,3 +224,56 @@ finishes_marked (m ∷ next ∷ marks) c w w' call r f =
     let g = stays_client w f.0 call m.entry f.1 f.2.turn.moves in
     marked_then c (need_of (Client call)) (is_full r) w f.0 w' m (next ∷ marks) (turn_marked c (need_of (Client call)) w f.0 call f.1 (Ok More) m refl f.2)
     (subst (λ need. Marked c need (is_full r) f.0 (next ∷ marks) w') g.2 (finishes_marked (next ∷ marks) c f.0 w' g.0 r (subst (λ a. Finishes (next ∷ marks) f.0 c a r w') g.1 f.3)))
+
+-- ---- turns of a machine
+
+-- each store that tells afterwards told before them
+turns_told : (marks : List Mark) (c : ℕ) (w w' : WorldState) (a a' : Actor) (r : Result Progress TurnFault) → TakesTurns marks w c a r w' a' → ToldBefore w w'
+turns_told [] c w w' a a' r f = absurd f
+turns_told (m ∷ []) c w w' a a' r f = moved_told w w' a a' r m.entry f.turn.moves
+turns_told (m ∷ next ∷ marks) c w w' a a' r f = told_then w f.0 w' (moved_told w f.0 a f.1 (Ok More) m.entry f.2.turn.moves) (turns_told (next ∷ marks) c f.0 w' f.1 a' r f.3)
+
+-- a reply to the entry of a failed call
+fault_replies : (w w' : WorldState) (r : Result Progress TurnFault) → RepliesAt w (entry_at_end r) w'
+fault_replies w w' (Ok progress) = tt
+fault_replies w w' (Err StoreFault) = for_pair w' (λ p. Replies what.Fault (table_now w) reply.NoReply) (λ a b ea eb. refl)
+fault_replies w w' (Err HistoryFull) = tt
+fault_replies w w' (Err NoMemory) = tt
+
+pub turns_marked : (marks : List Mark) (c : ℕ) (w w' : WorldState) (a a' : Actor) (r : Result Progress TurnFault) → is_client a ≡ false → TakesTurns marks w c a r w' a' → Marked c need_of_move (is_full r) w marks w'
+turns_marked marks c w w' a a' r machine f =
+    let s = steps_answer marks w w' c a a' r machine f in
+    alike_marked c need_of_move (is_full r) w w' (entry_at_end r) marks s.same (turns_told marks c w w' a a' r f) s.entries (fault_replies w w' r) s.full s.marks_are (record { old_store = s.old_faults; new_store = s.new_faults })
+
+-- ---- a seal
+
+seal_told : (w w' : WorldState) (r : Result (Unit {0}) TurnFault) → CallsSeal (stage_of w) r (stage_of w') → ToldBefore w w'
+seal_told w w' (Ok u) one = on_told w w' Old ask.Seal (Ok store.SealDone) one.on
+seal_told w w' (Err StoreFault) one = on_told w w' Old ask.Seal (Err call_fault.Failed) one.on
+seal_told w w' (Err HistoryFull) none = none_told w w' none
+seal_told w w' (Err NoMemory) one = elim one as (λ _. ToldBefore w w') [ inl none ↦ none_told w w' none | inr vain ↦ on_told w w' Old ask.Seal (Err call_fault.NoMemory) vain.on ]
+
+on_later : (w w' : WorldState) (r : Result StoreReply CallFault) → CallsOn Old w.old_store w.new_store ask.Seal r w'.old_store w'.new_store → AtMost (counts_of w) (counts_of w')
+on_later w w' r h = let k = called w.old_store w.new_store w'.old_store w'.new_store Old ask.Seal r h in record { old_store = k.old_faults; new_store = k.new_faults }
+
+none_later : (w w' : WorldState) → NoCall (stage_of w) (stage_of w') → AtMost (counts_of w) (counts_of w')
+none_later w w' h = let k = not_called w.old_store w.new_store w'.old_store w'.new_store h.old_store h.new_store in record { old_store = k.old_faults; new_store = k.new_faults }
+
+seal_later : (w w' : WorldState) (r : Result (Unit {0}) TurnFault) → CallsSeal (stage_of w) r (stage_of w') → AtMost (counts_of w) (counts_of w')
+seal_later w w' (Ok u) one = on_later w w' (Ok store.SealDone) one.on
+seal_later w w' (Err StoreFault) one = on_later w w' (Err call_fault.Failed) one.on
+seal_later w w' (Err HistoryFull) none = none_later w w' none
+seal_later w w' (Err NoMemory) one = elim one as (λ _. AtMost (counts_of w) (counts_of w')) [ inl none ↦ none_later w w' none | inr vain ↦ on_later w w' (Err call_fault.NoMemory) vain.on ]
+
+seal_replies : (w w' : WorldState) (r : Result (Unit {0}) TurnFault) → RepliesAt w (seal_entry r) w'
+seal_replies w w' (Ok u) = tt
+seal_replies w w' (Err StoreFault) = for_pair w' (λ p. Replies what.Fault (table_now w) reply.NoReply) (λ a b ea eb. refl)
+seal_replies w w' (Err HistoryFull) = tt
+seal_replies w w' (Err NoMemory) = tt
+
+-- its one mark
+abbrev pub seal_marks : WorldState → Result (Unit {0}) TurnFault → List Mark
+seal_marks w r = (record { place = end_of w; entry = seal_entry r }) ∷ []
+
+pub seal_marked : (c : ℕ) (w w' : WorldState) (r : Result (Unit {0}) TurnFault) → SealsOld w c r w' → Marked c need_of_move (is_full r) w (seal_marks w r) w'
+seal_marked c w w' r s = alike_marked c need_of_move (is_full r) w w' (seal_entry r) (seal_marks w r) s.same (seal_told w w' r s.calls) s.adds.entries (seal_replies w w' r) s.full refl (seal_later w w' r s.calls)

@@ -87,7 +87,7 @@ module _ (c : ℕ) (T : Type 0) (past : Past) (o : Option NewEntry) (own : List 
     subst (λ (n : Mark). AreNextMarks c T (grown past own) (place_behind n.place n.entry) (next ∷ marks)) (sym h.0) (marks_at replies (next ∷ marks) h.1),
   )
 
-  behind_at : (marks : List Mark) → AreMarksAt (past_end past) o marks → behind (past_end past) marks ≡ place_behind (past_end past) o
+  pub behind_at : (marks : List Mark) → AreMarksAt (past_end past) o marks → behind (past_end past) marks ≡ place_behind (past_end past) o
   behind_at [] h = absurd h
   behind_at (m ∷ []) h = ap (λ (n : Mark). place_behind n.place n.entry) h
   behind_at (m ∷ next ∷ marks) h = ap (λ (n : Mark). behind (place_behind n.place n.entry) (next ∷ marks)) h.0 ∙ behind_at (next ∷ marks) h.1
