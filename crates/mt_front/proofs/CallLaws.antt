@@ -45,6 +45,7 @@ use Rattle.mt_front.specs.Session.{counts_of}
 use Rattle.mt_front.specs.Turns.{BrokeOff, Tries, IsOwn, Leaves, room_for, answer_of, outcome_of}
 use Rattle.mt_front.proofs.OwnLaws.{left_at}
 use Rattle.mt_front.proofs.MarkLaws.{Marked, finishes_marked}
+use Rattle.mt_front.proofs.MachineLaws.{call_forward}
 use Rattle.mt_front.proofs.CameLaws.{tried, starved}
 
 -- ---- tags
@@ -88,17 +89,17 @@ failed_last (Err HistoryFull) = refl
 failed_last (Err NoMemory) = refl
 
 module _ (w w' : WorldState) where
-  both_still : w'.old_store.faults ≡ w.old_store.faults → w'.new_store.faults ≡ w.new_store.faults → counts_of w' ≡ counts_of w
+  pub both_still : w'.old_store.faults ≡ w.old_store.faults → w'.new_store.faults ≡ w.new_store.faults → counts_of w' ≡ counts_of w
   both_still p q = ap (λ n. record { old_store = n; new_store = w'.new_store.faults }) p ∙ ap (λ n. record { old_store = w.old_store.faults; new_store = n }) q
 
-  on_still : (side : Side) (a : Ask) (answer : StoreReply) → CallsOn side w.old_store w.new_store a (Ok answer) w'.old_store w'.new_store → counts_of w' ≡ counts_of w
+  pub on_still : (side : Side) (a : Ask) (answer : StoreReply) → CallsOn side w.old_store w.new_store a (Ok answer) w'.old_store w'.new_store → counts_of w' ≡ counts_of w
   on_still Old a answer h = both_still h.0.faults (ap (λ (s : Store). s.faults) h.1)
   on_still New a answer h = both_still (ap (λ (s : Store). s.faults) h.1) h.0.faults
 
-  none_still : NoCall (stage_of w) (stage_of w') → counts_of w' ≡ counts_of w
+  pub none_still : NoCall (stage_of w) (stage_of w') → counts_of w' ≡ counts_of w
   none_still h = both_still (ap (λ (s : Store). s.faults) h.old_store) (ap (λ (s : Store). s.faults) h.new_store)
 
-  moved_still : (a b : Actor) (r : Result Progress TurnFault) (entry : Option NewEntry) → has_failed r ≡ false → Moves (stage_of w) a r entry (stage_of w') b → counts_of w' ≡ counts_of w
+  pub moved_still : (a b : Actor) (r : Result Progress TurnFault) (entry : Option NewEntry) → has_failed r ≡ false → Moves (stage_of w) a r entry (stage_of w') b → counts_of w' ≡ counts_of w
   moved_still a b (Ok progress) entry e m = on_still m.0.side m.0.ask m.1 m.3.on
   moved_still a b (Err StoreFault) entry e m = absurd cc
   moved_still a b (Err HistoryFull) entry e m = none_still m.0
@@ -216,14 +217,16 @@ no_failure outcome.Full e = refl
 -- a request was called, and came to this
 pub tried_as : (c : ℕ) (w u w' : WorldState) (q : Request) (call : ClientCall) (o : Outcome) → u ≡ w → IsCallOf q call → EndsCall u c (Client call) (answer_of o) w' → Tries c w q (Ok o) w'
 tried_as c w u w' q call o same is ends =
-    let k = called c w w' q call (answer_of o) is (subst (λ v. EndsCall v c (Client call) (answer_of o) w') same ends) in
-    (k.marks, tried c w w' q o k.marks k.marked k.leaves (own_by q o (entries_of k.marks) k.answered k.leaves k.tags) k.cause (λ e. k.still (no_failure o e)))
+    let began = subst (λ v. EndsCall v c (Client call) (answer_of o) w') same ends in
+    let k = called c w w' q call (answer_of o) is began in
+    (k.marks, tried c w w' q o k.marks k.marked k.leaves (own_by q o (entries_of k.marks) k.answered k.leaves k.tags) k.cause (λ e. k.still (no_failure o e)) (call, answer_of o, is, began))
 
 -- so where there was no memory
 pub tried_in_vain : (c : ℕ) (w u w' : WorldState) (q : Request) (call : ClientCall) → u ≡ w → IsCallOf q call → EndsCall u c (Client call) (Err NoMemory) w' → (broken : List Mark) × BrokeOff c w broken w'
 tried_in_vain c w u w' q call same is ends =
-    let k = called c w w' q call (Err NoMemory) is (subst (λ v. EndsCall v c (Client call) (Err NoMemory) w') same ends) in
-    (k.marks, starved c w w' q k.marks k.marked k.leaves (k.still refl))
+    let began = subst (λ v. EndsCall v c (Client call) (Err NoMemory) w') same ends in
+    let k = called c w w' q call (Err NoMemory) is began in
+    (k.marks, starved c w w' q k.marks k.marked k.leaves (k.still refl) (call_forward c w w' (Client call) (Err NoMemory) began))
 
 -- the answer is none of a client's
 abbrev pub IsForeign : Answer → Type 0

@@ -16,6 +16,7 @@ use Rattle.mt_scan.specs.Units.{IsEntryOf}
 use Rattle.mt_scan.specs.Streams.{Step}
 use Rattle.mt_world.specs.declared.actor.Request.{Request}
 use Rattle.mt_world.specs.declared.actor.Request.TheVariants as request
+use Rattle.mt_world.specs.declared.actor.Actor.TheVariants.{Client}
 use Rattle.mt_world.specs.declared.actor.Answer.{Answer}
 use Rattle.mt_world.specs.declared.actor.Answer.TheVariants as answer
 use Rattle.mt_world.specs.declared.actor.TurnFault.{TurnFault}
@@ -34,19 +35,21 @@ use Rattle.mt_front.specs.Answers.{Past, FitsFrom, NoneOf, Counts, IsCaused, May
 use Rattle.mt_front.specs.Session.{past_of, counts_of, Added}
 use Rattle.mt_front.specs.Turns.{CameOut, BrokeOff, Tried, IsOwn, Leaves, room_for, answer_of, tried_item, outcome_of}
 use Rattle.mt_front.proofs.CauseLaws.{most_self}
+use Rattle.mt_front.specs.Machines.{GoesForward, CallsWhole}
 use Rattle.mt_front.proofs.MarkLaws.{Marked, same_self, told_self}
+use Rattle.mt_front.proofs.MachineLaws.{forward_self, call_forward}
 
 -- ---- what is refused before anything is tried
 
 pub added_self : (c : ℕ) (w : WorldState) → Added c w w
-added_self c w = record { more = []; grew = sym (append-nil w.history.entries); own = All-nil (λ (e : Entry). e.caller ≡ c); retired = refl }
+added_self c w = record { more = []; grew = sym (append-nil w.history.entries); own = All-nil (λ (e : Entry). e.caller ≡ c) }
 
 none_behind : (c : ℕ) (past : Past) → NoneOf c (entries_from past (past_end past))
 none_behind c past =
     subst (NoneOf c) (sym (drop_all (past_end past - past.window.first) past.window.entries (omega arith))) (All-nil (λ (e : Entry). e.caller ≡ c → ⊥))
 
 -- behind turns that came to its end there is none either
-none_after : (c : ℕ) (w w' : WorldState) (marks : List Mark) → behind (past_end (past_of w)) marks ≡ past_end (past_of w') → NoneOf c (entries_from (past_of w') (behind (past_end (past_of w)) marks))
+pub none_after : (c : ℕ) (w w' : WorldState) (marks : List Mark) → behind (past_end (past_of w)) marks ≡ past_end (past_of w') → NoneOf c (entries_from (past_of w') (behind (past_end (past_of w)) marks))
 none_after c w w' marks ends = subst (λ n. NoneOf c (entries_from (past_of w') n)) (sym ends) (none_behind c (past_of w'))
 
 -- items that have no marks leave the history as it is
@@ -87,8 +90,8 @@ fault_by outcome.Full e = absurd cc
 
 -- a request that was finished, with no other caller between
 pub tried : (c : ℕ) (w w' : WorldState) (q : Request) (o : Outcome) (marks : List Mark) → Marked c (room_for q) (turns.is_full (answer_of o)) w marks w' → Leaves q (answer_of o) (entries_of marks) → IsOwn q o
-    → (answer_of o ≡ Err fault.StoreFault → EitherRose w w') → (is_fault (outcome_of o) ≡ false → counts_of w' ≡ counts_of w) → Tried c w q o marks w'
-tried c w w' q o marks m leaves kind cause still = record {
+    → (answer_of o ≡ Err fault.StoreFault → EitherRose w w') → (is_fault (outcome_of o) ≡ false → counts_of w' ≡ counts_of w) → CallsWhole c w q w' → Tried c w q o marks w'
+tried c w w' q o marks m leaves kind cause still whole = record {
   own = kind;
   left = leaves;
   came = λ asks keep reply need. record {
@@ -104,6 +107,7 @@ tried c w w' q o marks m leaves kind cause still = record {
   };
   caused = λ asks keep reply. record { later = m.later; rose = λ f. cause (fault_by o f); still = still };
   added = m.added;
+  whole = whole;
 }
 
 -- ---- an item that broke off
@@ -117,13 +121,14 @@ nothing_broke c w = record {
   added = added_self c w;
   later = most_self (counts_of w);
   still = λ e. refl;
+  forward = forward_self w;
 }
 
 -- no entry of these is a batch that was applied
 abbrev pub NoBatches : List NewEntry → Type 0
 NoBatches es = AllByRecursion (λ e. MayStay (Some e)) es
 
-marks_stay : (marks : List Mark) → NoBatches (entries_of marks) → All (λ (m : Mark). MayStay m.entry) marks
+pub marks_stay : (marks : List Mark) → NoBatches (entries_of marks) → All (λ (m : Mark). MayStay m.entry) marks
 marks_stay [] h = All-nil (λ (m : Mark). MayStay m.entry)
 marks_stay (m ∷ marks) h =
     let parts : MayStay m.entry × NoBatches (entries_of marks) =
@@ -211,15 +216,17 @@ tried_off c w w' q o marks asks need u t =
       added = t.added;
       later = (t.caused asks true []).later;
       still = none_still c w w' q o marks asks t;
+      forward = call_forward c w w' (Client t.whole.0) t.whole.1 t.whole.3;
     }
 
 -- a call had no memory
-pub starved : (c : ℕ) (w w' : WorldState) (q : Request) (marks : List Mark) → Marked c (room_for q) false w marks w' → Leaves q (Err fault.NoMemory) (entries_of marks) → counts_of w' ≡ counts_of w → BrokeOff c w marks w'
-starved c w w' q marks m leaves still = record {
+pub starved : (c : ℕ) (w w' : WorldState) (q : Request) (marks : List Mark) → Marked c (room_for q) false w marks w' → Leaves q (Err fault.NoMemory) (entries_of marks) → counts_of w' ≡ counts_of w → GoesForward w w' → BrokeOff c w marks w'
+starved c w w' q marks m leaves still forward = record {
   same = m.same;
   told = m.told;
   breaks = record { marks = m.marks_are; no_batch = marks_stay marks (left_stays q (Err fault.NoMemory) (entries_of marks) tt leaves); behind_them = none_after c w w' marks m.ends };
   added = m.added;
   later = m.later;
   still = λ e. still;
+  forward = forward;
 }

@@ -1,3 +1,4 @@
+mod AdminLaws
 mod BodyKeyLaws
 mod CallLaws
 mod CameLaws
@@ -6,11 +7,14 @@ mod ChangeLaws
 mod ChangeSetLaws
 pub mod CauseLaws
 pub mod FitLaws
+mod MachineLaws
+mod MigrationLaws
 mod OwnLaws
 mod PageLaws
 mod PageReplyLaws
 mod ReadLaws
 mod RefusalLaws
+mod ReportLaws
 mod RouteLaws
 mod SpellLaws
 mod TalkLaws

@@ -98,7 +98,7 @@ turns_forward (m ∷ next ∷ marks) c w w' a a' r f = forward_then w f.0 w' (tu
 pub seal_forward : (c : ℕ) (w w' : WorldState) (r : Result (Unit {0}) TurnFault) → SealsOld w c r w' → GoesForward w w'
 seal_forward c w w' r s = forward_by w w' [] [] s.tells s.keeps (λ e. s.retired ∙ e)
 
-same_forward : (w w' : WorldState) → w' ≡ w → GoesForward w w'
+pub same_forward : (w w' : WorldState) → w' ≡ w → GoesForward w w'
 same_forward w w' same = subst (GoesForward w) (sym same) (forward_self w)
 
 -- ---- the last of a machine's turns

@@ -38,6 +38,8 @@ use Rattle.mt_front.specs.ChangeSets.{IsRefusedPart, BatchedBy, AsksSet, AsksBou
 use Rattle.mt_front.specs.Reads.{TokenReads, AsksPartition, AsksFiltered, AsksRows}
 use Rattle.mt_front.specs.PageReads.{IsTop, place_by, BeginsAt, IsBadPage, IsPageOfAll, AsksPageWith, AsksPage, MayPage, MayTry}
 use Rattle.mt_front.specs.Fields.{is_atomic}
+use Rattle.mt_front.specs.declared.services.Machine.{Machine}
+use Rattle.mt_front.specs.Services.{IsSteps, AsksSteps}
 use Rattle.mt_front.specs.Routes.{route_refusal, route_by}
 use Rattle.mt_front.specs.Asks.{asked_alone, AsksOn, AsksBy, Request, RequestAsks}
 
@@ -126,12 +128,23 @@ bounded_may table None body a asks = subst MayTry (sym asks) tt
 bounded_may table (Some boundary) body a (inl whole) = set_may table (parts_of whole.0) a whole.2
 bounded_may table (Some boundary) body a (inr none) = subst MayTry (sym none.1) tt
 
+some_steps : (value : Option (List ℕ)) (steps : ℕ) → IsSteps value steps → 1 ≤ steps
+some_steps None steps is = absurd is
+some_steps (Some text) steps is = is.1
+
+steps_may : (machine : Machine) (options : List QueryOption) (a : Asked) → AsksSteps machine options a → MayTry a
+steps_may machine options a (inl bad) = subst MayTry (sym bad.1) tt
+steps_may machine options a (inr good) = subst MayTry (sym good.2) (some_steps (value_of (codes "steps") options) good.0 good.1)
+
 on_may : (table : List ℕ) (at : Route) (options : List QueryOption) (fields : List Field) (bytes : List ℕ) (a : Asked) → AsksOn table at options fields bytes a → MayTry a
 on_may table (route.Write write) options fields bytes a asks = subst MayTry (sym asks.2) (alone_may asks.0)
 on_may table (route.Row pk rk) options fields bytes a asks = keyed_may (key_fault pk rk) _ a (λ read. subst MayTry (sym read.2) tt) asks
 on_may table route.Rows options fields bytes a asks = rows_may options fields a asks
 on_may table route.Page options fields bytes a asks = asked_page_may options fields a asks
 on_may table route.Changes options fields bytes a asks = bounded_may table (boundary_by fields) bytes a asks
+on_may table (route.Steps machine) options fields bytes a asks = steps_may machine options a asks
+on_may table route.Seal options fields bytes a asks = subst MayTry (sym asks) tt
+on_may table route.Status options fields bytes a asks = subst MayTry (sym asks) tt
 
 by_may : (table : List ℕ) (r : Option BadRequest) (at : Option Route) (options : List QueryOption) (fields : List Field) (bytes : List ℕ) (a : Asked) → AsksBy table r at options fields bytes a → MayTry a
 by_may table (Some r) at options fields bytes a asks = subst MayTry (sym asks) tt

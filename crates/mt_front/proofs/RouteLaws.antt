@@ -3,7 +3,6 @@ use Rattle.std.proofs.Common.{◌≡◌, ◌∙◌, ℕ, Bool, true, false, not,
 use Rattle.std.specs.Prelude.{◌||◌, codes}
 use Rattle.std.specs.Option.{is_some}
 use Rattle.mt_target.specs.declared.target.Keys.TheVariants as keys
-use Rattle.mt_target.specs.declared.target.Service.TheVariants as service
 use Rattle.mt_target.specs.declared.target.Target.{Target}
 use Rattle.mt_target.specs.declared.target.Target.TheVariants as target
 use Rattle.mt_front.specs.declared.methods.Method.{Method}
@@ -19,23 +18,23 @@ use Rattle.mt_front.specs.Routes.{route_by, is_built, when, first_of, is_list_of
 -- so whether a table is read at one time or by pages
 pub built_as : (atomic : Bool) (t : Target) (m : Option Method) → is_some (route_by atomic t m) ≡ is_built t m
 built_as false t m = refl
-built_as true t None = refl
-built_as true t (Some Put) = refl
-built_as true t (Some Merge) = refl
-built_as true t (Some Patch) = refl
-built_as true t (Some Delete) = refl
+built_as true (target.Service s) m = refl
+built_as true (target.Table name k) None = refl
+built_as true target.Tables None = refl
+built_as true (target.Table name k) (Some Put) = refl
+built_as true target.Tables (Some Put) = refl
+built_as true (target.Table name k) (Some Merge) = refl
+built_as true target.Tables (Some Merge) = refl
+built_as true (target.Table name k) (Some Patch) = refl
+built_as true target.Tables (Some Patch) = refl
+built_as true (target.Table name k) (Some Delete) = refl
+built_as true target.Tables (Some Delete) = refl
 built_as true (target.Table name keys.Absent) (Some Get) = refl
 built_as true (target.Table name keys.Empty) (Some Get) = refl
 built_as true (target.Table name (keys.Entity pk rk)) (Some Get) = refl
 built_as true target.Tables (Some Get) = refl
-built_as true (target.Service s) (Some Get) = refl
 built_as true (target.Table name k) (Some Post) = refl
 built_as true target.Tables (Some Post) = refl
-built_as true (target.Service service.Batch) (Some Post) = refl
-built_as true (target.Service service.Migrate) (Some Post) = refl
-built_as true (target.Service service.Clean) (Some Post) = refl
-built_as true (target.Service service.Seal) (Some Post) = refl
-built_as true (target.Service service.Status) (Some Post) = refl
 
 -- ---- what is not refused
 

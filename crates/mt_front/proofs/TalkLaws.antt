@@ -24,12 +24,17 @@ use Rattle.mt_front.specs.Asks.{WholeAsks, request_by}
 use Rattle.mt_front.specs.Items.{Item, IsRendered, AllKeep, LastCloses}
 use Rattle.mt_front.specs.Answers.{FitsFrom, BreaksOff, IsCaused, past_end}
 use Rattle.mt_front.specs.Spells.{SpellsAll}
-use Rattle.mt_front.specs.Session.{Sent, Cut, past_of, counts_of, Added, Talk, Course, IsCourse, IsRefused, MayBreak, AtNoMemory, SessionAs, Serves}
+use Rattle.mt_front.specs.Session.{Sent, Cut, past_of, counts_of, Added, Talk, Ran, Course, IsCourse, IsRefused, MayBreak, AtNoMemory, SessionAs, Serves}
 use Rattle.mt_front.specs.Turns.{BrokeOff, CameOut, OneMore, IsRefusal, SessionTurn, AtWant, ConversesAs, Converses, served_of}
 use Rattle.mt_front.proofs.FitLaws.{grown, fits_sooner, fits_join}
 use Rattle.mt_front.proofs.MarkLaws.{same_self, same_then, told_self, told_then, tells_before, past_grown}
 use Rattle.mt_front.proofs.CameLaws.{added_self, fits_none}
 use Rattle.mt_front.proofs.CauseLaws.{caused_more, caused_all, caused_whole}
+use Rattle.mt_front.specs.declared.machines.Machines.{Machines}
+use Rattle.mt_front.specs.Machines.{all_begun, ItemsDo}
+use Rattle.mt_front.specs.Migration.{Migrates}
+use Rattle.mt_front.proofs.MachineLaws.{forward_self, same_forward, items_more}
+use Rattle.mt_front.proofs.MigrationLaws.{ran_to, ran_migrates}
 use Rattle.mt_front.proofs.SpellLaws.{spells_more}
 use Rattle.mt_front.proofs.TurnLaws.{sent_after, cut_after}
 
@@ -55,7 +60,6 @@ module _ (c : ℕ) (u w w' : WorldState) (items : List Item) (talk : Talk c u it
     more = talk.added.more ++ a.more;
     grew = a.grew ∙ ap (λ (l : List Entry). l ++ a.more) talk.added.grew ∙ append_assoc u.history.entries talk.added.more a.more;
     own = All-append (λ (e : Entry). e.caller ≡ c) talk.added.more a.more talk.added.own a.own;
-    retired = a.retired ∙ talk.added.retired;
   }
 
   pub talk_more : (i : Item) → CameOut c w i w' → IsCaused (counts_of w) i (counts_of w') → Added c w w' → IsRendered i → Talk c u (items ++ i ∷ []) [] w'
@@ -93,13 +97,14 @@ module _ (c : ℕ) (u w w' : WorldState) (items : List Item) (talk : Talk c u it
 -- ---- the turns of a session
 
 -- so far: these items were answered, and their replies written; the connection goes on
-pub record On (c : ℕ) (table : List ℕ) (s : Input) (o : Output) (u : WorldState) (count : ℕ) (kept : List ℕ) (t : Input) (x : Output) (w : WorldState) : Type 0 where
+pub record On (c : ℕ) (table : List ℕ) (s : Input) (o : Output) (u : WorldState) (count : ℕ) (kept : List ℕ) (t : Input) (x : Output) (w : WorldState) (ms : Machines) : Type 0 where
   pub items : List Item
   pub read : List ℕ
   pub written : List ℕ
   pub spelled : SpellsAll table items read written
   pub spent : Spent [] s read kept t
   pub talk : Talk c u items [] w
+  pub did : ItemsDo c u all_begun items w ms
   pub sent : Sent o written x
   pub keep : AllKeep items
   pub count_is : count ≡ length items
@@ -113,7 +118,7 @@ spent_start kept s e = record {
   paid = omega arith;
 }
 
-pub on_start : (c : ℕ) (table kept : List ℕ) (s : Input) (o : Output) (u : WorldState) → kept ≡ [] → On c table s o u 0 kept s o u
+pub on_start : (c : ℕ) (table kept : List ℕ) (s : Input) (o : Output) (u : WorldState) → kept ≡ [] → On c table s o u 0 kept s o u all_begun
 on_start c table kept s o u e = record {
   items = [];
   read = [];
@@ -121,6 +126,7 @@ on_start c table kept s o u e = record {
   spelled = (refl, refl);
   spent = spent_start kept s e;
   talk = talk_start c u;
+  did = (refl, refl);
   sent = sym (after_nothing o.held);
   keep = All-nil (λ (i : Item). i.keep ≡ true);
   count_is = refl;
@@ -142,26 +148,28 @@ never_began c table s o u = record {
   course = record { items = []; broken = []; read = []; written = []; left = s.left };
   is_course = record { spelled = (refl, refl); read_is = sym (before_nothing s.left) };
   talk = talk_start c u;
+  ran = ran_to c u u u all_begun [] (refl, refl) (forward_self u);
+  migrates = ran_migrates c u u u all_begun [] (refl, refl) (forward_self u);
   breaks = tt;
   ends = record { said = []; spoken = inl refl; keep = All-nil (λ (i : Item). i.keep ≡ true); sent = sym (after_nothing o.held) };
   faults = omega arith;
   faults_out = omega arith;
 }
 
-module _ (c : ℕ) (table : List ℕ) (s : Input) (o : Output) (u : WorldState) (count : ℕ) (kept : List ℕ) (t : Input) (x : Output) (w : WorldState) (kept' : List ℕ) (t' : Input) (x' : Output) (w' : WorldState)
-    (on : On c table s o u count kept t x w) where
+module _ (c : ℕ) (table : List ℕ) (s : Input) (o : Output) (u : WorldState) (count : ℕ) (kept : List ℕ) (t : Input) (x : Output) (w : WorldState) (ms : Machines) (kept' : List ℕ) (t' : Input) (x' : Output) (w' : WorldState) (ms' : Machines)
+    (on : On c table s o u count kept t x w ms) where
   -- ---- one request more
 
-  abbrev pub item_of : (keep : Bool) (r : Result (Unit {0}) ConnFault) → OneMore c table kept t x w keep r kept' t' x' w' → Item
+  abbrev pub item_of : (keep : Bool) (r : Result (Unit {0}) ConnFault) → OneMore c table kept t x w ms keep r kept' t' x' w' ms' → Item
   item_of keep r m = m.answering.item
 
-  abbrev pub owed_for : (keep : Bool) (r : Result (Unit {0}) ConnFault) → OneMore c table kept t x w keep r kept' t' x' w' → List ℕ
+  abbrev pub owed_for : (keep : Bool) (r : Result (Unit {0}) ConnFault) → OneMore c table kept t x w ms keep r kept' t' x' w' ms' → List ℕ
   owed_for keep r m = continue_of m.head ++ m.answering.item.reply
 
-  abbrev pub course_more : (keep : Bool) (r : Result (Unit {0}) ConnFault) → OneMore c table kept t x w keep r kept' t' x' w' → Course
+  abbrev pub course_more : (keep : Bool) (r : Result (Unit {0}) ConnFault) → OneMore c table kept t x w ms keep r kept' t' x' w' ms' → Course
   course_more keep r m = record { items = on.items ++ item_of keep r m ∷ []; broken = []; read = on.read ++ m.got.bytes; written = on.written ++ owed_for keep r m; left = ahead kept' t' }
 
-  spelled_more : (keep : Bool) (r : Result (Unit {0}) ConnFault) (m : OneMore c table kept t x w keep r kept' t' x' w')
+  spelled_more : (keep : Bool) (r : Result (Unit {0}) ConnFault) (m : OneMore c table kept t x w ms keep r kept' t' x' w' ms')
       → SpellsAll table (on.items ++ item_of keep r m ∷ []) (on.read ++ m.got.bytes) (on.written ++ owed_for keep r m)
   spelled_more keep r m = spells_more table on.items (item_of keep r m) on.read on.written m.got.bytes (owed_for keep r m) on.spelled (record {
     head = m.head;
@@ -172,22 +180,31 @@ module _ (c : ℕ) (table : List ℕ) (s : Input) (o : Output) (u : WorldState) 
     written_is = refl;
   })
 
-  spent_more : (keep : Bool) (r : Result (Unit {0}) ConnFault) (m : OneMore c table kept t x w keep r kept' t' x' w') → Spent [] s (on.read ++ m.got.bytes) kept' t'
+  spent_more : (keep : Bool) (r : Result (Unit {0}) ConnFault) (m : OneMore c table kept t x w ms keep r kept' t' x' w' ms') → Spent [] s (on.read ++ m.got.bytes) kept' t'
   spent_more keep r m = spent_then [] s on.read kept t m.got.bytes kept' t' on.spent m.got.spent
 
   known_of : (read : List ℕ) (b : List ℕ) (v : Input) → Spent [] s read b v → s.left ≡ before_known read (ahead b v)
   known_of read b v spent = sym (before_nothing s.left) ∙ spent.same
 
-  is_course_more : (keep : Bool) (r : Result (Unit {0}) ConnFault) (m : OneMore c table kept t x w keep r kept' t' x' w') → IsCourse table s (course_more keep r m)
+  is_course_more : (keep : Bool) (r : Result (Unit {0}) ConnFault) (m : OneMore c table kept t x w ms keep r kept' t' x' w' ms') → IsCourse table s (course_more keep r m)
   is_course_more keep r m = record { spelled = spelled_more keep r m; read_is = known_of (on.read ++ m.got.bytes) kept' t' (spent_more keep r m) }
 
-  talk_made : (keep : Bool) (r : Result (Unit {0}) ConnFault) (m : OneMore c table kept t x w keep r kept' t' x' w') → Talk c u (on.items ++ item_of keep r m ∷ []) [] w'
+  talk_made : (keep : Bool) (r : Result (Unit {0}) ConnFault) (m : OneMore c table kept t x w ms keep r kept' t' x' w' ms') → Talk c u (on.items ++ item_of keep r m ∷ []) [] w'
   talk_made keep r m = let a = m.answering in talk_more c u w w' on.items on.talk a.item a.came a.caused a.added a.rendered
 
-  sent_more : (keep : Bool) (m : OneMore c table kept t x w keep (Ok tt) kept' t' x' w') → Sent o (on.written ++ owed_for keep (Ok tt) m) x'
+  did_more : (keep : Bool) (r : Result (Unit {0}) ConnFault) (m : OneMore c table kept t x w ms keep r kept' t' x' w' ms') → ItemsDo c u all_begun (on.items ++ item_of keep r m ∷ []) w' ms'
+  did_more keep r m = items_more c u w w' all_begun ms ms' on.items m.answering.item on.did m.answering.did
+
+  ran_more : (keep : Bool) (r : Result (Unit {0}) ConnFault) (m : OneMore c table kept t x w ms keep r kept' t' x' w' ms') → Ran c u (on.items ++ item_of keep r m ∷ []) w'
+  ran_more keep r m = ran_to c u w' w' ms' (on.items ++ item_of keep r m ∷ []) (did_more keep r m) (forward_self w')
+
+  migrates_more : (keep : Bool) (r : Result (Unit {0}) ConnFault) (m : OneMore c table kept t x w ms keep r kept' t' x' w' ms') → Migrates u (on.items ++ item_of keep r m ∷ []) w'
+  migrates_more keep r m = ran_migrates c u w' w' ms' (on.items ++ item_of keep r m ∷ []) (did_more keep r m) (forward_self w')
+
+  sent_more : (keep : Bool) (m : OneMore c table kept t x w ms keep (Ok tt) kept' t' x' w' ms') → Sent o (on.written ++ owed_for keep (Ok tt) m) x'
   sent_more keep m = sent_after o x x' on.written (owed_for keep (Ok tt) m) on.sent (sent_after x m.between x' (continue_of m.head) m.answering.item.reply m.got.said m.answering.replied)
 
-  cut_more : (keep : Bool) (m : OneMore c table kept t x w keep (Err WriteFault) kept' t' x' w') → Cut o (on.written ++ owed_for keep (Err WriteFault) m) x'
+  cut_more : (keep : Bool) (m : OneMore c table kept t x w ms keep (Err WriteFault) kept' t' x' w' ms') → Cut o (on.written ++ owed_for keep (Err WriteFault) m) x'
   cut_more keep m =
       cut_after o x x' on.written (owed_for keep (Err WriteFault) m) on.faults_out on.sent (cut_after x m.between x' (continue_of m.head) m.answering.item.reply m.later m.got.said m.answering.replied)
 
@@ -216,9 +233,9 @@ module _ (c : ℕ) (table : List ℕ) (s : Input) (o : Output) (u : WorldState) 
   reads_of : (read b : List ℕ) (v : Input) → Spent [] s read b v → v.calls ≤ s.calls + length read
   reads_of read b v spent = let p : v.calls ≤ s.calls + (length read - 0) = spent.paid in omega (arith, p)
 
-  pub go_on : SessionTurn c table kept t x w (Ok Answered) kept' t' x' w' → On c table s o u (count + 1) kept' t' x' w'
+  pub go_on : SessionTurn c table kept t x w ms (Ok Answered) kept' t' x' w' ms' → On c table s o u (count + 1) kept' t' x' w' ms'
   go_on y =
-      let m : OneMore c table kept t x w true (Ok tt) kept' t' x' w' = y.turn in
+      let m : OneMore c table kept t x w ms true (Ok tt) kept' t' x' w' ms' = y.turn in
       let i : Item = m.answering.item in
       record {
         items = on.items ++ i ∷ [];
@@ -227,6 +244,7 @@ module _ (c : ℕ) (table : List ℕ) (s : Input) (o : Output) (u : WorldState) 
         spelled = spelled_more true (Ok tt) m;
         spent = spent_more true (Ok tt) m;
         talk = talk_made true (Ok tt) m;
+        did = did_more true (Ok tt) m;
         sent = sent_more true m;
         keep = keeps_more i m.answering.keep_is;
         count_is = count_more i;
@@ -249,13 +267,15 @@ module _ (c : ℕ) (table : List ℕ) (s : Input) (o : Output) (u : WorldState) 
     course = course;
     is_course = is_course;
     talk = subst (λ z. Talk c u on.items [] z) (sym same) on.talk;
+    ran = ran_to c u w w' ms on.items on.did (same_forward w w' same);
+    migrates = ran_migrates c u w w' ms on.items on.did (same_forward w w' same);
     breaks = breaks;
     ends = ends;
     faults = let l : Later s t' = later_more more in l.faults;
     faults_out = out_more more_out;
   }
 
-  ended_at_end : SessionTurn c table kept t x w (Ok (Ended AtEnd)) kept' t' x' w' → Converses c table u s o (Ok (served_of count AtEnd)) w' t' x'
+  ended_at_end : SessionTurn c table kept t x w ms (Ok (Ended AtEnd)) kept' t' x' w' ms' → Converses c table u s o (Ok (served_of count AtEnd)) w' t' x'
   ended_at_end y =
       let calls : t'.calls ≤ t.calls + 1 = y.turn.2 in
       let before : t.calls ≤ s.calls + length on.read = reads_of on.read kept t on.spent in
@@ -271,14 +291,16 @@ module _ (c : ℕ) (table : List ℕ) (s : Input) (o : Output) (u : WorldState) 
       )
       y.later y.faults_out
 
-  ended_closed : SessionTurn c table kept t x w (Ok (Ended Closed)) kept' t' x' w' → Converses c table u s o (Ok (served_of count Closed)) w' t' x'
+  ended_closed : SessionTurn c table kept t x w ms (Ok (Ended Closed)) kept' t' x' w' ms' → Converses c table u s o (Ok (served_of count Closed)) w' t' x'
   ended_closed y =
-      let m : OneMore c table kept t x w false (Ok tt) kept' t' x' w' = y.turn in
+      let m : OneMore c table kept t x w ms false (Ok tt) kept' t' x' w' ms' = y.turn in
       let i : Item = m.answering.item in
       record {
         course = course_more false (Ok tt) m;
         is_course = is_course_more false (Ok tt) m;
         talk = talk_made false (Ok tt) m;
+        ran = ran_more false (Ok tt) m;
+        migrates = migrates_more false (Ok tt) m;
         breaks = refl;
         ends = (record { last = closes_last i m.answering.keep_is; sent = sent_more false m; reads = reads_of (on.read ++ m.got.bytes) kept' t' (spent_more false (Ok tt) m) }, count_more i);
         faults = let l : Later s t' = later_more y.later in l.faults;
@@ -296,13 +318,13 @@ module _ (c : ℕ) (table : List ℕ) (s : Input) (o : Output) (u : WorldState) 
     reads = ended_then [] s on.read kept t t' on.spent b.ended;
   }
 
-  ended_badly : SessionTurn c table kept t x w (Ok (Ended BadInput)) kept' t' x' w' → Converses c table u s o (Ok (served_of count BadInput)) w' t' x'
+  ended_badly : SessionTurn c table kept t x w ms (Ok (Ended BadInput)) kept' t' x' w' ms' → Converses c table u s o (Ok (served_of count BadInput)) w' t' x'
   ended_badly y =
       serves (Ok (served_of count BadInput)) refl y.turn.3
       (on.written ++ y.turn.0, refused_here y.turn.0 y.turn.1, sent_after o x x' on.written y.turn.0 on.sent y.turn.2, ap (λ k. k + 1) on.count_is)
       y.later y.faults_out
 
-  pub ended : (at : End) → SessionTurn c table kept t x w (Ok (Ended at)) kept' t' x' w' → Converses c table u s o (Ok (served_of count at)) w' t' x'
+  pub ended : (at : End) → SessionTurn c table kept t x w ms (Ok (Ended at)) kept' t' x' w' ms' → Converses c table u s o (Ok (served_of count at)) w' t' x'
   ended AtEnd y = ended_at_end y
   ended Closed y = ended_closed y
   ended BadInput y = ended_badly y
@@ -337,11 +359,13 @@ module _ (c : ℕ) (table : List ℕ) (s : Input) (o : Output) (u : WorldState) 
         reads = omega (arith, long, calls);
       }))
 
-  cut_reply : (keep : Bool) (m : OneMore c table kept t x w keep (Err WriteFault) kept' t' x' w') → Later t t' → x.faults ≤ x'.faults → Converses c table u s o (Err WriteFault) w' t' x'
+  cut_reply : (keep : Bool) (m : OneMore c table kept t x w ms keep (Err WriteFault) kept' t' x' w' ms') → Later t t' → x.faults ≤ x'.faults → Converses c table u s o (Err WriteFault) w' t' x'
   cut_reply keep m later out = record {
     course = course_more keep (Err WriteFault) m;
     is_course = is_course_more keep (Err WriteFault) m;
     talk = talk_made keep (Err WriteFault) m;
+    ran = ran_more keep (Err WriteFault) m;
+    migrates = migrates_more keep (Err WriteFault) m;
     breaks = refl;
     ends = inl (record {
       keep = kept_or_last keep m.answering.item m.answering.keep_is;
@@ -352,7 +376,7 @@ module _ (c : ℕ) (table : List ℕ) (s : Input) (o : Output) (u : WorldState) 
     faults_out = out_more out;
   }
 
-  pub failed : (f : ConnFault) → SessionTurn c table kept t x w (Err f) kept' t' x' w' → Converses c table u s o (Err f) w' t' x'
+  pub failed : (f : ConnFault) → SessionTurn c table kept t x w ms (Err f) kept' t' x' w' ms' → Converses c table u s o (Err f) w' t' x'
   failed ReadFault y = serves (Err ReadFault) refl y.turn.1 (broke_in y.turn.0) y.later y.faults_out
   failed WriteFault y = elim y.turn as (λ _. Converses c table u s o (Err WriteFault) w' t' x') [
     | inl m ↦ cut_reply m.0 m.1 y.later y.faults_out
@@ -363,17 +387,21 @@ module _ (c : ℕ) (table : List ℕ) (s : Input) (o : Output) (u : WorldState) 
     course = record { items = on.items; broken = y.turn.0; read = on.read; written = on.written; left = ahead kept t };
     is_course = record { spelled = on.spelled; read_is = known_of on.read kept t on.spent };
     talk = talk_breaks c u w w' on.items on.talk y.turn.0 y.turn.1;
+    ran = ran_to c u w w' ms on.items on.did y.turn.1.forward;
+    migrates = ran_migrates c u w w' ms on.items on.did y.turn.1.forward;
     breaks = tt;
     ends = record { said = y.turn.2.said; spoken = y.turn.2.spoken; keep = on.keep; sent = sent_after o x x' on.written y.turn.2.said on.sent y.turn.2.sent };
     faults = let l : Later s t' = later_more y.later in l.faults;
     faults_out = out_more y.faults_out;
   }
 
-pub out_of_count : (c : ℕ) (table : List ℕ) (s : Input) (o : Output) (u : WorldState) (count : ℕ) (kept : List ℕ) (t : Input) (x : Output) (w : WorldState) → On c table s o u count kept t x w → Converses c table u s o (Err NoMemory) w t x
-out_of_count c table s o u count kept t x w on = record {
+pub out_of_count : (c : ℕ) (table : List ℕ) (s : Input) (o : Output) (u : WorldState) (count : ℕ) (kept : List ℕ) (t : Input) (x : Output) (w : WorldState) (ms : Machines) → On c table s o u count kept t x w ms → Converses c table u s o (Err NoMemory) w t x
+out_of_count c table s o u count kept t x w ms on = record {
   course = record { items = on.items; broken = []; read = on.read; written = on.written; left = ahead kept t };
   is_course = record { spelled = on.spelled; read_is = sym (before_nothing s.left) ∙ on.spent.same };
   talk = on.talk;
+  ran = ran_to c u w w ms on.items on.did (forward_self w);
+  migrates = ran_migrates c u w w ms on.items on.did (forward_self w);
   breaks = tt;
   ends = record { said = []; spoken = inl refl; keep = on.keep; sent = subst (λ z. Sent o z x) (sym (append-nil on.written)) on.sent };
   faults = on.later.faults;
@@ -412,6 +440,8 @@ told_want c table w s o y x r w' t k sends = record {
   course = k.course;
   is_course = k.is_course;
   talk = k.talk;
+  ran = k.ran;
+  migrates = k.migrates;
   breaks = tt;
   ends = told_as o y x k.course r k.faults_out k.ends sends;
   faults = k.faults;
