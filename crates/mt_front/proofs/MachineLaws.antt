@@ -101,24 +101,6 @@ seal_forward c w w' r s = forward_by w w' [] [] s.tells s.keeps (λ e. s.retired
 pub same_forward : (w w' : WorldState) → w' ≡ w → GoesForward w w'
 same_forward w w' same = subst (GoesForward w) (sym same) (forward_self w)
 
--- ---- the last of a machine's turns
-
--- the world that it found, with what the machine knew there
-pub record LastTurn (c : ℕ) (w : WorldState) (a : Actor) (r : Result Progress TurnFault) (w' : WorldState) (a' : Actor) : Type 0 where
-  pub at : WorldState
-  pub machine : Actor
-  pub before : GoesForward w at
-  pub knows : Knows at machine
-  pub mark : Mark
-  pub turn : MarkedTurn mark at c machine r w' a'
-
-pub last_of : (marks : List Mark) (c : ℕ) (w w' : WorldState) (a a' : Actor) (r : Result Progress TurnFault) → Knows w a → TakesTurns marks w c a r w' a' → LastTurn c w a r w' a'
-last_of [] c w w' a a' r knows f = absurd f
-last_of (m ∷ []) c w w' a a' r knows f = record { at = w; machine = a; before = forward_self w; knows = knows; mark = m; turn = f }
-last_of (m ∷ next ∷ marks) c w w' a a' r knows f =
-    let rest = last_of (next ∷ marks) c f.0 w' f.1 a' r f.2.turn.knows f.3 in
-    record { at = rest.at; machine = rest.machine; before = forward_then w f.0 rest.at (turn_forward w f.0 c a f.1 (Ok More) m.entry f.2.turn) rest.before; knows = rest.knows; mark = rest.mark; turn = rest.turn }
-
 -- ---- what turns of a machine come to
 
 -- a migrator goes on or is done; a cleaner goes on, is done, or says what stops it
@@ -188,6 +170,38 @@ a_machines machine (Err fault) h = tt
 pub not_client : (machine : Machine) (a : Actor) → IsOfKind machine a → is_client a ≡ false
 not_client Migrator a kind = ap is_client kind.1
 not_client Cleaner a kind = ap is_client kind.1
+
+-- ---- the last of a machine's turns
+
+-- the world that it found, with what the machine knew there
+pub record LastTurn (of : Machine) (c : ℕ) (w : WorldState) (a : Actor) (r : Result Progress TurnFault) (w' : WorldState) (a' : Actor) : Type 0 where
+  pub at : WorldState
+  pub machine : Actor
+  pub before : GoesForward w at
+  pub knows : Knows at machine
+  pub kind : IsOfKind of machine
+  pub mark : Mark
+  pub turn : MarkedTurn mark at c machine r w' a'
+
+pub last_of : (of : Machine) (marks : List Mark) (c : ℕ) (w w' : WorldState) (a a' : Actor) (r : Result Progress TurnFault) → IsOfKind of a → Knows w a → TakesTurns marks w c a r w' a' → LastTurn of c w a r w' a'
+last_of of [] c w w' a a' r kind knows f = absurd f
+last_of of (m ∷ []) c w w' a a' r kind knows f = record { at = w; machine = a; before = forward_self w; knows = knows; kind = kind; mark = m; turn = f }
+last_of of (m ∷ next ∷ marks) c w w' a a' r kind knows f =
+    let rest = last_of of (next ∷ marks) c f.0 w' f.1 a' r (kind_on of w f.0 c a f.1 (Ok More) m.entry kind f.2.turn) f.2.turn.knows f.3 in
+    record { at = rest.at; machine = rest.machine; before = forward_then w f.0 rest.at (turn_forward w f.0 c a f.1 (Ok More) m.entry f.2.turn) rest.before; knows = rest.knows; kind = rest.kind; mark = rest.mark; turn = rest.turn }
+
+-- ---- whether the world is retired
+
+finishes_retired : (marks : List Mark) (c : ℕ) (w w' : WorldState) (call : ClientCall) (r : Result Answer TurnFault) → Finishes marks w c (actor.Client call) r w' → w'.retired ≡ w.retired
+finishes_retired [] c w w' call r f = absurd f
+finishes_retired (m ∷ []) c w w' call r f = f.1.turn.retired
+finishes_retired (m ∷ next ∷ marks) c w w' call r f =
+    let to = client_stays w f.0 c call f.1 (Ok More) (m.entry, f.2.turn) in
+    finishes_retired (next ∷ marks) c f.0 w' to.0 r (subst (λ b. Finishes (next ∷ marks) f.0 c b r w') to.1 f.3) ∙ f.2.turn.retired
+
+-- a client's call leaves that
+pub call_retired : (c : ℕ) (w w' : WorldState) (call : ClientCall) (r : Result Answer TurnFault) → EndsCall w c (actor.Client call) r w' → w'.retired ≡ w.retired
+call_retired c w w' call r ends = finishes_retired ends.marks c w w' call r ends.turns
 
 -- ---- the machines stay ready
 
