@@ -318,5 +318,5 @@ call_does c w w' ms (asked.RefusedPart r) outcome did = (did, refl)
 -- ---- items one after the other
 
 pub items_more : (c : ℕ) (u w w' : WorldState) (ms ns ms' : Machines) (items : List Item) (i : Item) → ItemsDo c u ms items w ns → ItemDoes c w ns i w' ms' → ItemsDo c u ms (items ++ i ∷ []) w' ms'
-items_more c u w w' ms ns ms' [] i did one = (w', ms', subst (λ v. ItemDoes c v ms i w' ms') did.0 (subst (λ ks. ItemDoes c w ks i w' ms') did.1 one), refl, refl)
+items_more c u w w' ms ns ms' [] i did one = (w', ms', subst (λ v. ItemDoes c v ms i w' ms') did.0 (subst (λ ks. ItemDoes c w ks i w' ms') did.1 one), (refl, refl))
 items_more c u w w' ms ns ms' (j ∷ items) i did one = (did.0, did.1, did.2, items_more c did.0 w w' did.1 ns ms' items i did.3 one)

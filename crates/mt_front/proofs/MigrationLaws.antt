@@ -379,7 +379,7 @@ parted c w w' ms ms' (j ∷ before) after i did =
     let k = parted c did.0 w' did.1 ms' before after i did.3 in
     record { at = k.at; held = k.held; next = k.next; left = k.left; first = (did.0, did.1, did.2, k.first); one = k.one; rest = k.rest }
 
-items_held : (c : ℕ) (w w' : WorldState) (ms ms' : Machines) (items : List Item) → IsHeld w ms → ItemsDo c w ms items w' ms' → IsHeld w' ms'
+pub items_held : (c : ℕ) (w w' : WorldState) (ms ms' : Machines) (items : List Item) → IsHeld w ms → ItemsDo c w ms items w' ms' → IsHeld w' ms'
 items_held c w w' ms ms' [] held did = subst (λ v. IsHeld v ms') (sym did.0) (subst (IsHeld w) (sym did.1) held)
 items_held c w w' ms ms' (i ∷ items) held did = items_held c did.0 w' did.1 ms' items (item_held c w did.0 ms did.1 i held did.2) did.3
 

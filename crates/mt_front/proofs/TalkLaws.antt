@@ -31,10 +31,10 @@ use Rattle.mt_front.proofs.MarkLaws.{same_self, same_then, told_self, told_then,
 use Rattle.mt_front.proofs.CameLaws.{added_self, fits_none}
 use Rattle.mt_front.proofs.CauseLaws.{caused_more, caused_all, caused_whole}
 use Rattle.mt_front.specs.declared.machines.Machines.{Machines}
-use Rattle.mt_front.specs.Machines.{all_begun, ItemsDo}
+use Rattle.mt_front.specs.Machines.{all_begun, IsHeld, ItemsDo}
 use Rattle.mt_front.specs.Migration.{Migrates}
-use Rattle.mt_front.proofs.MachineLaws.{forward_self, same_forward, items_more}
-use Rattle.mt_front.proofs.MigrationLaws.{ran_to, ran_migrates}
+use Rattle.mt_front.proofs.MachineLaws.{forward_self, same_forward, items_more, begun_held}
+use Rattle.mt_front.proofs.MigrationLaws.{ran_to, ran_migrates, items_held}
 use Rattle.mt_front.proofs.SpellLaws.{spells_more}
 use Rattle.mt_front.proofs.TurnLaws.{sent_after, cut_after}
 
@@ -407,6 +407,10 @@ out_of_count c table s o u count kept t x w ms on = record {
   faults = on.later.faults;
   faults_out = on.faults_out;
 }
+
+-- both machines may take turns
+pub on_held : (c : ℕ) (table : List ℕ) (s : Input) (o : Output) (u : WorldState) (count : ℕ) (kept : List ℕ) (t : Input) (x : Output) (w : WorldState) (ms : Machines) → On c table s o u count kept t x w ms → IsHeld w ms
+on_held c table s o u count kept t x w ms on = items_held c u w all_begun ms on.items (begun_held u) on.did
 
 -- ---- want of memory is told
 

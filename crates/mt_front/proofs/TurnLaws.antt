@@ -84,13 +84,6 @@ module _ (Did : Item → Type 0) (c : ℕ) (w w' : WorldState) (o x : Output) wh
   unmade asks keep r broken off said =
       subst (λ v. AnswersOne Did c w o asks keep v w' x) (sym said.0) (record { faults_out = subst (λ (z : Output). o.faults ≤ z.faults) (sym said.1) (let le : o.faults ≤ o.faults = omega arith in le); answers = (broken, off, said.1) })
 
-  -- so for a reply that may have been made
-  pub answered_made : (asks : Asked) (keep : Bool) (item : List ℕ → Item) (want : Reply) (made : Result Reply NoRoom) (r : Result (Unit {0}) ConnFault) (broken : List Mark) → (item (bytes_of want)).asks ≡ asks → (item (bytes_of want)).keep ≡ keep → CameOut c w (item (bytes_of want)) w'
-      → IsCaused (counts_of w) (item (bytes_of want)) (counts_of w') → Added c w w' → IsRendered (item (bytes_of want)) → Did (item (bytes_of want)) → (item (bytes_of want)).reply ≡ bytes_of want
-      → BrokeOff c w broken w' → Makes want made → SaysMade o made r x → AnswersOne Did c w o asks keep r w' x
-  answered_made asks keep item want made r broken is kept came cause added rendered did reply off makes said =
-      answered_or asks keep (item (bytes_of want)) r broken is kept came cause added rendered did off (subst (λ b. SaysReply o b r x) (sym reply) (says_made o x want made r makes said))
-
 module _ (c : ℕ) (w w' : WorldState) (o x : Output) where
   -- a request that was tried, whose bytes are the reply to what it came to
   pub tried_said : (asks : Asked) (q : Request) (keep : Bool) (out : Outcome) (bytes : List ℕ) (r : Result (Unit {0}) ConnFault) → need_of asks ≡ Some (room_for q) → (CallsWhole c w q w' → CallDoes c w asks w') → IsUndone (answer_of out) → Tries c w q (Ok out) w'

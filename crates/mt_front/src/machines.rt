@@ -30,6 +30,13 @@ fn begun(alloc: Global, machine: Machine) -> Actor
     }
 }
 
+/// Puts a machine at its beginning in the place of this one.
+fn begin_anew(alloc: Global, machine: Machine, actor: &mut Actor)
+    ensures { actor.new ≡ begun machine }
+{
+    *actor = begun(alloc, machine);
+}
+
 /// Whether a machine is done after turns that came to this.
 fn is_done(came: &Result<Progress, TurnFault>) -> bool
     ensures { result ≡ is_at_end came.now }
@@ -74,7 +81,7 @@ fn step<K: Keeper>(
 {
     let stepped = world.steps(alloc, CALLER, actor, steps);
     if is_done(&stepped.came) {
-        *actor = begun(alloc, machine);
+        begin_anew(alloc, machine, actor);
     }
     told(stepped)
 }

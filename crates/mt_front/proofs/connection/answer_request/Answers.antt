@@ -3,4 +3,4 @@ use Rattle.mt_front.proofs.PageLaws.{request_may}
 use Rattle.mt_front.proofs.connection.answer_request.Goals as goal
 
 pub answer-requires : goal.answer-requires
-answer-requires g c = request_may c.args.table.now (request_of c.args.request) c.in-Ok.asks c.in-Ok.ensures
+answer-requires g c = record { may = request_may c.args.table.now (request_of c.args.request) c.in-Ok.asks c.in-Ok.ensures; held = c.requires }

@@ -32,14 +32,14 @@ returns-in-Ok-Paged g c =
     let q = c.args.read in
     let page = c.in-Ok-Paged.page in
     tried_made 0 c.args.world.now c.try_request.new.world (g.T.Sink.output c.args.sink.now) (g.T.Sink.output c.send_reply.new.sink) (asked.Page q) (request.Page q.filter q.top q.token) c.args.keep (outcome.Paged page)
-    c.page_reply.result c.send_reply.result refl tt (rw c.in-Ok-Paged.field-0-is at c.in-Ok-Paged.ensures)
+    c.page_reply.result c.send_reply.result refl (λ whole. whole) tt (rw c.in-Ok-Paged.field-0-is at c.in-Ok-Paged.ensures)
     (page_shown q page (not c.args.keep) c.page_reply.result c.page_reply.ensures.shows) c.send_reply.ensures
 
 pub returns-in-Ok-Fault : goal.returns-in-Ok-Fault
 returns-in-Ok-Fault g c =
     let q = c.args.read in
     tried_said 0 c.args.world.now c.try_request.new.world (g.T.Sink.output c.args.sink.now) (g.T.Sink.output c.send_fault.new.sink) (asked.Page q) (request.Page q.filter q.top q.token) c.args.keep outcome.Fault
-    (bytes_of (fault_reply (not c.args.keep))) c.send_fault.result refl tt
+    (bytes_of (fault_reply (not c.args.keep))) c.send_fault.result refl (λ whole. whole) tt
     (rw c.in-Ok-Fault.field-0-is at c.in-Ok-Fault.ensures)
     (λ marks left. (left, refl)) c.send_fault.ensures
 
@@ -47,7 +47,7 @@ pub returns-in-Ok-Full : goal.returns-in-Ok-Full
 returns-in-Ok-Full g c =
     let q = c.args.read in
     tried_said 0 c.args.world.now c.try_request.new.world (g.T.Sink.output c.args.sink.now) (g.T.Sink.output c.send_full.new.sink) (asked.Page q) (request.Page q.filter q.top q.token) c.args.keep outcome.Full
-    (bytes_of (full_reply (not c.args.keep))) c.send_full.result refl tt
+    (bytes_of (full_reply (not c.args.keep))) c.send_full.result refl (λ whole. whole) tt
     (rw c.in-Ok-Full.field-0-is at c.in-Ok-Full.ensures)
     (λ marks left. (left, refl)) c.send_full.ensures
 

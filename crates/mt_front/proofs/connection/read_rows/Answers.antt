@@ -31,20 +31,20 @@ returns-in-Ok-Found g c =
     let q = c.args.read in
     let rows = c.in-Ok-Found.rows in
     tried_made 0 c.args.world.now c.try_request.new.world (g.T.Sink.output c.args.sink.now) (g.T.Sink.output c.send_reply.new.sink) (asked.Read q) (request.Query q.pk q.filter) c.args.keep (outcome.Found rows)
-    c.rows_reply.result c.send_reply.result refl tt (rw c.in-Ok-Found.field-0-is at c.in-Ok-Found.ensures)
+    c.rows_reply.result c.send_reply.result refl (λ whole. whole) tt (rw c.in-Ok-Found.field-0-is at c.in-Ok-Found.ensures)
     (found_shown q rows (not c.args.keep) c.rows_reply.result (subst (λ l. IfOk c.rows_reply.result (ShowsRows q.shape q.show l (not c.args.keep))) c.as_slice.ensures.value c.rows_reply.ensures.shows)) c.send_reply.ensures
 
 pub returns-in-Ok-Fault : goal.returns-in-Ok-Fault
 returns-in-Ok-Fault g c =
     tried_said 0 c.args.world.now c.try_request.new.world (g.T.Sink.output c.args.sink.now) (g.T.Sink.output c.send_fault.new.sink) (asked.Read c.args.read) (request.Query c.args.read.pk c.args.read.filter) c.args.keep outcome.Fault
-    (bytes_of (fault_reply (not c.args.keep))) c.send_fault.result refl tt
+    (bytes_of (fault_reply (not c.args.keep))) c.send_fault.result refl (λ whole. whole) tt
     (rw c.in-Ok-Fault.field-0-is at c.in-Ok-Fault.ensures)
     (λ marks left. (left, refl)) c.send_fault.ensures
 
 pub returns-in-Ok-Full : goal.returns-in-Ok-Full
 returns-in-Ok-Full g c =
     tried_said 0 c.args.world.now c.try_request.new.world (g.T.Sink.output c.args.sink.now) (g.T.Sink.output c.send_full.new.sink) (asked.Read c.args.read) (request.Query c.args.read.pk c.args.read.filter) c.args.keep outcome.Full
-    (bytes_of (full_reply (not c.args.keep))) c.send_full.result refl tt
+    (bytes_of (full_reply (not c.args.keep))) c.send_full.result refl (λ whole. whole) tt
     (rw c.in-Ok-Full.field-0-is at c.in-Ok-Full.ensures)
     (λ marks left. (left, refl)) c.send_full.ensures
 

@@ -21,7 +21,7 @@ returns-in-Ok-Done g c =
     let t : Tries 0 c.args.world.now (request.Batch c.args.writes.ops) (Ok (outcome.Done c.in-Ok-Done.tags)) c.try_request.new.world =
     subst (λ ops. Tries 0 c.args.world.now (request.Batch ops) (Ok (outcome.Done c.in-Ok-Done.tags)) c.try_request.new.world) c.into_batch.ensures (rw c.in-Ok-Done.field-0-is at c.in-Ok-Done.ensures) in
     tried_answered 0 c.args.world.now c.try_request.new.world (g.T.Sink.output c.args.sink.now) (g.T.Sink.output c.send_bytes.new.sink) (asked.Write c.args.writes) (request.Batch c.args.writes.ops) c.args.keep (outcome.Done c.in-Ok-Done.tags)
-    c.deref.result.now c.send_bytes.result refl t
+    c.deref.result.now c.send_bytes.result refl (λ whole. whole) t
     (λ marks left. (left, done_shown c.args.writes c.in-Ok.draft (not c.args.keep) c.in-Ok-Done.tags c.deref.result.now c.in-Ok.ensures t.1.own (c.deref.ensures.value ∙ c.finish.ensures))) c.send_bytes.ensures
 
 pub returns-in-Ok-Refused : goal.returns-in-Ok-Refused
@@ -31,7 +31,7 @@ returns-in-Ok-Refused g c =
     let want = refusal_reply c.args.writes.change_set c.in-Ok-Refused.refusal (not c.args.keep) in
     let made = subst (λ s. Makes (refusal_reply s c.in-Ok-Refused.refusal (not c.args.keep)) c.refusal_reply.result) c.is_change_set-change_set.ensures.value c.refusal_reply.ensures in
     tried_said 0 c.args.world.now c.try_request.new.world o x (asked.Write c.args.writes) (request.Batch c.args.writes.ops) c.args.keep (outcome.Refused c.in-Ok-Refused.refusal)
-    (bytes_of want) c.send_reply.result refl tt
+    (bytes_of want) c.send_reply.result refl (λ whole. whole) tt
     (subst (λ ops. Tries 0 c.args.world.now (request.Batch ops) (Ok (outcome.Refused c.in-Ok-Refused.refusal)) c.try_request.new.world) c.into_batch.ensures (rw c.in-Ok-Refused.field-0-is at c.in-Ok-Refused.ensures))
     (λ marks left. (left, refl)) (says_made o x want c.refusal_reply.result c.send_reply.result made c.send_reply.ensures)
 
@@ -48,14 +48,14 @@ unreachable-requires-in-Ok-Paged g c =
 pub returns-in-Ok-Fault : goal.returns-in-Ok-Fault
 returns-in-Ok-Fault g c =
     tried_said 0 c.args.world.now c.try_request.new.world (g.T.Sink.output c.args.sink.now) (g.T.Sink.output c.send_fault.new.sink) (asked.Write c.args.writes) (request.Batch c.args.writes.ops) c.args.keep outcome.Fault
-    (bytes_of (fault_reply (not c.args.keep))) c.send_fault.result refl tt
+    (bytes_of (fault_reply (not c.args.keep))) c.send_fault.result refl (λ whole. whole) tt
     (subst (λ ops. Tries 0 c.args.world.now (request.Batch ops) (Ok outcome.Fault) c.try_request.new.world) c.into_batch.ensures (rw c.in-Ok-Fault.field-0-is at c.in-Ok-Fault.ensures))
     (λ marks left. (left, refl)) c.send_fault.ensures
 
 pub returns-in-Ok-Full : goal.returns-in-Ok-Full
 returns-in-Ok-Full g c =
     tried_said 0 c.args.world.now c.try_request.new.world (g.T.Sink.output c.args.sink.now) (g.T.Sink.output c.send_full.new.sink) (asked.Write c.args.writes) (request.Batch c.args.writes.ops) c.args.keep outcome.Full
-    (bytes_of (full_reply (not c.args.keep))) c.send_full.result refl tt
+    (bytes_of (full_reply (not c.args.keep))) c.send_full.result refl (λ whole. whole) tt
     (subst (λ ops. Tries 0 c.args.world.now (request.Batch ops) (Ok outcome.Full) c.try_request.new.world) c.into_batch.ensures (rw c.in-Ok-Full.field-0-is at c.in-Ok-Full.ensures))
     (λ marks left. (left, refl)) c.send_full.ensures
 
