@@ -1,6 +1,6 @@
 -- What an order comes to, as an item of a connection.
 use Rattle.std.proofs.Common.{◌≡◌, ◌∙◌, ℕ, Bool, true, false, not, List, [], ◌∷◌, length, Option, Some, None, Ok, Err, refl, sym, ap, subst, inl, inr, arith}
-use Rattle.std.specs.Prelude.{Result, IfSome, IfOk}
+use Rattle.std.specs.Prelude.{Result, IfSome, IfOk, ◌≤◌}
 use Rattle.std.specs.List.{list_any}
 use Rattle.std.specs.Option.{option_to_list}
 use Rattle.mt_model.specs.declared.text.NoMemory.{NoMemory as NoRoom}

@@ -33,13 +33,12 @@ pub unmigrated_made : (fields : List ReplyField) (body pk : List ℕ) (close : B
 unmigrated_made fields body pk close f b = error_made None 409 fields body (codes "NotMigrated") (escape (not_migrated pk)) close refl f b
 
 -- a text that is printed alone stands in its quotes
-printed_alone : (text : List ℕ) → print (string text ∷ []) ≡ quoted text
+pub printed_alone : (text : List ℕ) → print (string text ∷ []) ≡ quoted text
 unfolding print_from
 printed_alone text = append-nil (quoted text)
 
 -- between the two ends of the error object it is the object with the escaped text
-pub object_printed : (text sentence : List ℕ) → text ≡ sentence → (codes "{\"odata.error\":{\"code\":\"NotMigrated\",\"message\":{\"lang\":\"en-US\",\"value\":" ++ print (string text ∷ [])) ++ codes "}}}" ≡ error_object (codes "NotMigrated") (escape sentence)
-object_printed text sentence is =
-    ap (λ z. (codes "{\"odata.error\":{\"code\":\"NotMigrated\",\"message\":{\"lang\":\"en-US\",\"value\":" ++ z) ++ codes "}}}") (printed_alone text ∙ ap quoted is)
-    ∙ append_assoc (codes "{\"odata.error\":{\"code\":\"NotMigrated\",\"message\":{\"lang\":\"en-US\",\"value\":") (quoted sentence) (codes "}}}")
+pub object_quoted : (sentence : List ℕ) → (codes "{\"odata.error\":{\"code\":\"NotMigrated\",\"message\":{\"lang\":\"en-US\",\"value\":" ++ quoted sentence) ++ codes "}}}" ≡ error_object (codes "NotMigrated") (escape sentence)
+object_quoted sentence =
+    append_assoc (codes "{\"odata.error\":{\"code\":\"NotMigrated\",\"message\":{\"lang\":\"en-US\",\"value\":") (quoted sentence) (codes "}}}")
     ∙ ap (λ z. codes "{\"odata.error\":{\"code\":\"NotMigrated\",\"message\":{\"lang\":\"en-US\",\"value\":\"" ++ z) (append_assoc (escape sentence) (codes "\"") (codes "}}}"))

@@ -21,10 +21,12 @@ fn truth_text(truth: bool) -> &'static str
 fn json_reply(alloc: Global, text: &str, close: bool) -> Result<Reply, NoMemory>
     ensures { Makes (json_reply text.now close) result }
 {
+    let fields = typed_fields(alloc, "application/json", None)?;
+    let body = Blob::of(alloc, text.as_bytes())?;
     Ok(Reply {
         status: 200,
-        fields: typed_fields(alloc, "application/json", None)?,
-        body: Blob::of(alloc, text.as_bytes())?,
+        fields,
+        body,
         close,
     })
 }
@@ -59,12 +61,23 @@ fn status_reply(
 fn sealed_reply(alloc: Global, close: bool) -> Result<Reply, NoMemory>
     ensures { Makes (sealed_reply close) result }
 {
+    let fields = ReplyFields::of(Vec::new(alloc));
+    let body = Blob::of(alloc, b"")?;
     Ok(Reply {
         status: 204,
-        fields: ReplyFields::of(Vec::new(alloc)),
-        body: Blob::of(alloc, b"")?,
+        fields,
+        body,
         close,
     })
+}
+
+/// A text of JSON behind what stands in the buffer.
+fn quoted_behind(text: Vec<u8>, sentence: &str) -> Result<Vec<u8>, NoMemory>
+    ensures { IfOk result (λ out. out.items ≡ text.items ++ quoted sentence.now) }
+{
+    let mut writer = Writer::new(text);
+    writer.string(sentence)?;
+    Ok(writer.into_inner())
 }
 
 /// The error object that names a partition, whose key may have characters that JSON escapes.
@@ -76,9 +89,7 @@ fn unmigrated_object(alloc: Global, pk: &str) -> Result<Blob, NoMemory>
     text.extend_from_slice(
         b"{\"odata.error\":{\"code\":\"NotMigrated\",\"message\":{\"lang\":\"en-US\",\"value\":",
     )?;
-    let mut writer = Writer::new(text);
-    writer.string(&sentence)?;
-    let mut text = writer.into_inner();
+    let mut text = quoted_behind(text, &sentence)?;
     text.extend_from_slice(b"}}}")?;
     Blob::of(alloc, &text)
 }
@@ -87,10 +98,12 @@ fn unmigrated_object(alloc: Global, pk: &str) -> Result<Blob, NoMemory>
 fn unmigrated_reply(alloc: Global, pk: &str, close: bool) -> Result<Reply, NoMemory>
     ensures { Makes (unmigrated_reply pk.now close) result }
 {
+    let fields = typed_fields(alloc, "application/json", None)?;
+    let body = unmigrated_object(alloc, pk)?;
     Ok(Reply {
         status: 409,
-        fields: typed_fields(alloc, "application/json", None)?,
-        body: unmigrated_object(alloc, pk)?,
+        fields,
+        body,
         close,
     })
 }
