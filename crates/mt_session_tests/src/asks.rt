@@ -169,6 +169,28 @@ fn methods_of_resources(rt: HostRuntime) -> Result<(), Fail> {
         ("GET", "/Orders", Got::Page),
         ("GET", "/Orders()", Got::Page),
         ("GET", ENTITY, Got::Read(Shape::One)),
+        ("DELETE", "/Tables('x')", UNSUPPORTED),
+        ("HEAD", "/Orders", refused_at(Resource::Table)),
+        ("post", "/Orders", refused_at(Resource::Table)),
+        ("PUT", "/Orders", refused_at(Resource::Table)),
+        ("POST", "/Orders()", refused_at(Resource::Entities)),
+        ("POST", ENTITY, refused_at(Resource::Entity)),
+    ] {
+        let sent = Sent {
+            method,
+            target,
+            ..INSERT
+        };
+        let got = asked_shortly(alloc, sent)?;
+        assert!(rt; got == want, "{got:?} for {method} {target}");
+    }
+    Ok(())
+}
+
+#[test]
+fn methods_of_services(rt: HostRuntime) -> Result<(), Fail> {
+    let alloc = rt.alloc();
+    for (method, target, want) in [
         ("POST", "/$batch", Got::Refused(BadRequest::InvalidBatch)),
         ("POST", "/$mt/migrate?steps=1", turns(Machine::Migrator, 1)),
         (
@@ -178,12 +200,6 @@ fn methods_of_resources(rt: HostRuntime) -> Result<(), Fail> {
         ),
         ("POST", "/$mt/seal", Got::Admin(Admin::Seal)),
         ("GET", "/$mt/status", Got::Admin(Admin::Status)),
-        ("DELETE", "/Tables('x')", UNSUPPORTED),
-        ("HEAD", "/Orders", refused_at(Resource::Table)),
-        ("post", "/Orders", refused_at(Resource::Table)),
-        ("PUT", "/Orders", refused_at(Resource::Table)),
-        ("POST", "/Orders()", refused_at(Resource::Entities)),
-        ("POST", ENTITY, refused_at(Resource::Entity)),
         (
             "GET",
             "/$batch",
