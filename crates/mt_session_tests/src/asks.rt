@@ -1,6 +1,8 @@
-//! What single requests ask for: the operation, the rows, a page, or the first refusal.
+//! What single requests ask for: the operation, the rows, a page, an order, or the first refusal.
 use mt_chain::{Cond, Op, PkFrom};
-use mt_front::{Asked, BadPart, BadRequest, PageRead, Resource, Shape, Writes, asked_by};
+use mt_front::{
+    Admin, Asked, BadPart, BadRequest, Machine, PageRead, Resource, Shape, Writes, asked_by,
+};
 use mt_http_in::{Field, Fields, Incoming};
 use mt_json::Level;
 use mt_mime::Echo;
@@ -35,6 +37,7 @@ enum Got {
     ChangeSet(usize),
     Read(Shape),
     Page,
+    Admin(Admin),
     Refused(BadRequest),
     RefusedPart(BadPart),
 }
@@ -119,6 +122,7 @@ fn shortly(asked: &Asked) -> Got {
         Asked::Write(writes) => writes_shortly(writes),
         Asked::Read(read) => Got::Read(read.shape),
         Asked::Page(_) => Got::Page,
+        Asked::Admin(order) => Got::Admin(*order),
         Asked::Refused(refusal) => Got::Refused(*refusal),
         Asked::RefusedPart(bad) => Got::RefusedPart(*bad),
     }
@@ -143,6 +147,11 @@ const BAD_OPTION: Got = Got::Refused(BadRequest::InvalidQuery);
 
 const INSERTED: Got = Got::Insert(Echo::Entity(Level::Minimal));
 
+/// So many turns of the machine are asked for.
+fn turns(machine: Machine, steps: u32) -> Got {
+    Got::Admin(Admin::Steps { machine, steps })
+}
+
 /// The resource does not have the method.
 fn refused_at(resource: Resource) -> Got {
     Got::Refused(BadRequest::MethodNotAllowed(resource))
@@ -160,15 +169,37 @@ fn methods_of_resources(rt: HostRuntime) -> Result<(), Fail> {
         ("GET", "/Orders", Got::Page),
         ("GET", "/Orders()", Got::Page),
         ("GET", ENTITY, Got::Read(Shape::One)),
-        ("POST", "/$batch", Got::Refused(BadRequest::InvalidBatch)),
-        ("POST", "/$mt/migrate?steps=1", UNSUPPORTED),
-        ("GET", "/$mt/status", UNSUPPORTED),
         ("DELETE", "/Tables('x')", UNSUPPORTED),
         ("HEAD", "/Orders", refused_at(Resource::Table)),
         ("post", "/Orders", refused_at(Resource::Table)),
         ("PUT", "/Orders", refused_at(Resource::Table)),
         ("POST", "/Orders()", refused_at(Resource::Entities)),
         ("POST", ENTITY, refused_at(Resource::Entity)),
+    ] {
+        let sent = Sent {
+            method,
+            target,
+            ..INSERT
+        };
+        let got = asked_shortly(alloc, sent)?;
+        assert!(rt; got == want, "{got:?} for {method} {target}");
+    }
+    Ok(())
+}
+
+#[test]
+fn methods_of_services(rt: HostRuntime) -> Result<(), Fail> {
+    let alloc = rt.alloc();
+    for (method, target, want) in [
+        ("POST", "/$batch", Got::Refused(BadRequest::InvalidBatch)),
+        ("POST", "/$mt/migrate?steps=1", turns(Machine::Migrator, 1)),
+        (
+            "POST",
+            "/$mt/clean?steps=1000000",
+            turns(Machine::Cleaner, 1_000_000),
+        ),
+        ("POST", "/$mt/seal", Got::Admin(Admin::Seal)),
+        ("GET", "/$mt/status", Got::Admin(Admin::Status)),
         (
             "GET",
             "/$batch",
@@ -187,6 +218,33 @@ fn methods_of_resources(rt: HostRuntime) -> Result<(), Fail> {
         };
         let got = asked_shortly(alloc, sent)?;
         assert!(rt; got == want, "{got:?} for {method} {target}");
+    }
+    Ok(())
+}
+
+/// What is not supported comes before a bad number of turns; an option without a dollar sign that is
+/// not `steps` says nothing.
+#[test]
+fn numbers_of_turns(rt: HostRuntime) -> Result<(), Fail> {
+    let alloc = rt.alloc();
+    for (target, want) in [
+        ("/$mt/migrate", BAD_OPTION),
+        ("/$mt/migrate?steps", BAD_OPTION),
+        ("/$mt/migrate?Steps=1", BAD_OPTION),
+        ("/$mt/migrate?steps=0", BAD_OPTION),
+        ("/$mt/migrate?steps=1000001", BAD_OPTION),
+        ("/$mt/migrate?steps=01", BAD_OPTION),
+        ("/$mt/migrate?steps=x", BAD_OPTION),
+        ("/$mt/clean?steps=x", BAD_OPTION),
+        ("/$mt/clean?steps=1&steps=2", REPEATED),
+        ("/$mt/clean?steps=1&$top=1", UNSUPPORTED),
+        ("/$mt/clean?steps=x&comp=acl", UNSUPPORTED),
+        ("/$mt/clean?timeout=1&steps=2", turns(Machine::Cleaner, 2)),
+        ("/$mt/migrate?%73teps=%37", turns(Machine::Migrator, 7)),
+        ("/$mt/seal?steps=x", Got::Admin(Admin::Seal)),
+    ] {
+        let got = asked_shortly(alloc, Sent { target, ..INSERT })?;
+        assert!(rt; got == want, "{got:?} for {target}");
     }
     Ok(())
 }
