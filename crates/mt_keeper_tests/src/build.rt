@@ -65,17 +65,18 @@ pub fn one(alloc: Global, put: Put) -> Result<Puts, Fail>
     Ok(Puts::of(puts))
 }
 
-/// Asks for one row, and for the first rows behind another up to a third.
+/// Asks for one row, and for the first rows behind the one bound up to the other.
 pub fn query(
     alloc: Global,
     pk: char,
     row: u64,
-    (after, upto): (u64, u64),
+    bounds: (u64, u64),
     limit: u32,
 ) -> Result<RangeQuery, Fail>
     requires { 1 ≤ limit }
     ensures { IfOk result CanQuery }
 {
+    let (after, upto) = bounds;
     let mut names = Vec::new(alloc);
     names.push(numbered(alloc, row)?)?;
     Ok(RangeQuery {
