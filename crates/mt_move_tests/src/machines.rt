@@ -69,7 +69,7 @@ fn overtaken(alloc: Global) -> Result<String, Fail> {
 #[test]
 fn a_migrator_that_was_overtaken_writes_nothing(rt: HostRuntime) -> Result<(), Fail> {
     let got = overtaken(rt.alloc())?;
-    let want = "old \u{1} 0.3 prefer-new;r 0.2 ;new \u{1} 1.2 filling;";
+    let want = "old \u{1} 0.3 prefer-old;r 0.2 ;new \u{1} 1.2 filling;";
     assert!(rt; got.as_str() == want, "{got}");
     Ok(())
 }
