@@ -10,7 +10,7 @@ one_rising name = (tt, tt)
 
 pub returns : goal.returns
 returns c =
-    let name = c.in_ok-numbered.result in
+    let name = c.in_ok-numbered.field-0 in
     let names : c.of.result ≡ name ∷ [] = c.of.ensures ∙ c.in_ok-push.ensures.items ∙ ap (λ ns. ns ++ name ∷ []) c.new-names.ensures.items in
     let long = ap length names in
     record {
