@@ -1,7 +1,7 @@
 #!/usr/bin/env bash
-# Times 2,000, 10,000 and 40,000 inserts into one partition through one session, with row keys that rise, that fall,
+# Times 2,000, 10,000 and 40,000 inserts into one partition through one plain session, with row keys that rise, that fall,
 # and in random order, and prints for each time how often that of 2,000 goes into it. Where an insert costs the same
-# however much is stored, that is 1, 5 and 20. The memory keeper has its rows in one list, and an insert moves the
+# however much is stored, that is 1, 5 and 20. The plain keeper has its rows in one list, and an insert moves the
 # rows behind it: so falling keys cost the most, and rising keys the least.
 #
 # Give a program that is built as the argument, else ./mtable builds and runs its own. It takes some minutes.
@@ -21,7 +21,7 @@ def request(i):
 def seconds(keys):
     data = "".join(map(request, keys)).encode()
     start = time.perf_counter()
-    out = subprocess.run([sys.argv[1], "session"], input=data, capture_output=True, check=True).stdout
+    out = subprocess.run([sys.argv[1], "session", "--keeper", "plain"], input=data, capture_output=True, check=True).stdout
     took = time.perf_counter() - start
     assert out.count(b"201 Created") == len(keys)
     return took

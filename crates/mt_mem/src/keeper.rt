@@ -146,8 +146,9 @@ impl MemKeeper {
         Ok(Tags::of(plan.tags))
     }
 
-    /// Sets the count of faults to 0, and answers what it was.
-    pub(crate) fn take_faults(&mut self) -> u64
+    /// Sets the count of faults to 0, and answers what it was: a depot does that which takes the store
+    /// back.
+    pub fn take_faults(&mut self) -> u64
         ensures faults { result ≡ self.old.faults }
         ensures rest { self.new ≡ without_faults self.old }
         ensures memory { IsMemory self.old }

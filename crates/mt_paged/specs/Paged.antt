@@ -1,12 +1,16 @@
 -- A store in memory whose rows stand in pages.
 use Rattle.std.specs.Prelude.{◌≡◌, ℕ, ◌<◌, ◌≤◌, max, All, List, [], ◌∷◌, length}
 use Rattle.std.specs.List.{sum}
-use Rattle.mt_mem.specs.Memory.{Memory, IsMemory}
+use Rattle.mt_mem.specs.Memory.{Memory, without_faults}
 
 -- what it holds, and how many rows each of its pages has
 pub record Paged : Type 0 where
   pub memory : Memory
   pub sizes : List ℕ
+
+-- the count of faults was taken, and nothing else changed
+abbrev pub cleared : Paged → Paged
+cleared p = record { memory = without_faults p.memory; sizes = p.sizes }
 
 -- the greatest of numbers, 0 where there are none
 abbrev pub greatest : List ℕ → ℕ

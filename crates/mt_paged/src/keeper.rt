@@ -5,7 +5,7 @@ ghost use Rattle.mt_chain.specs.StoreCall.{CanQuery};
 ghost use Rattle.mt_chain.specs.Store.{Applies, Queries, Nexts, Seals};
 ghost use Rattle.mt_mem.specs.Entries.{entries};
 ghost use Rattle.mt_mem.specs.Memory.{Memory, IsMemory, AreRows, store_of, risen, is_failing, is_at_end, is_apply_failing, counted, failed, Leaves, Judges, done_in, sealed_in};
-ghost use Rattle.mt_paged.specs.Paged.{greatest, AreSizes};
+ghost use Rattle.mt_paged.specs.Paged.{cleared, greatest, AreSizes};
 
 use crate::answer::{find, next_key};
 use crate::change::make_all;
@@ -137,6 +137,18 @@ impl PagedKeeper {
         make_all(&mut self.pages, pk, plan.changes);
         self.counter = plan.counter;
         Ok(Tags::of(plan.tags))
+    }
+
+    /// Sets the count of faults to 0, and answers what it was: a depot does that which takes the store
+    /// back.
+    pub fn take_faults(&mut self) -> u64
+        ensures faults { result ≡ self.old.memory.faults }
+        ensures rest { self.new ≡ cleared self.old }
+        ensures memory { IsMemory self.old.memory }
+    {
+        let faults = self.faults;
+        self.faults = 0;
+        faults
     }
 
     /// The number of rows of the largest page, at most 128, and 0 where there are no rows.

@@ -8,6 +8,7 @@ use crate::http::{
 use crate::runs::{PLAIN, Plan, depot_of, ran, ran_over};
 use mt_chain::{Depot, Keeper, RangeQuery, StoredRows};
 use mt_model::{Text, Texts, Value};
+use mt_words::StoreChoice;
 use std::alloc::Global;
 use std::test::Fail;
 
@@ -145,7 +146,7 @@ fn listed(alloc: Global, rows: &StoredRows) -> Result<String, Fail> {
 fn merged_rows_have_both(rt: HostRuntime) -> Result<(), Fail> {
     let alloc = rt.alloc();
     let input = requests_of(alloc, &[Ask::Insert("r"), Ask::Merge("r", Match::Any)])?;
-    let mut depot = depot_of(alloc, PLAIN)?;
+    let mut depot = depot_of(alloc, StoreChoice::Paged, PLAIN)?;
     let (status, _) = ran_over(alloc, PLAIN, &mut depot, input.as_str())?;
     assert!(rt; status == 0);
     let mut old = depot.open_store(alloc, 0)?;

@@ -1,6 +1,7 @@
 //! How runs end.
 use crate::http::{Ask, CREATED, INSERT, Reply, replies_of, reply_of, requests_of};
 use crate::runs::{PLAIN, Plan, depot_of, ran, ran_over};
+use mt_words::StoreChoice;
 use std::alloc::Global;
 use std::test::Fail;
 
@@ -115,7 +116,7 @@ fn statuses(rt: HostRuntime) -> Result<(), Fail> {
 #[test]
 fn a_second_run_serves_the_rows_of_the_first(rt: HostRuntime) -> Result<(), Fail> {
     let alloc = rt.alloc();
-    let mut depot = depot_of(alloc, PLAIN)?;
+    let mut depot = depot_of(alloc, StoreChoice::Paged, PLAIN)?;
     for want in [Reply::Created("r", 2), Reply::Exists] {
         let want = reply_of(alloc, want)?;
         let (status, got) = ran_over(alloc, PLAIN, &mut depot, INSERT)?;

@@ -1,12 +1,12 @@
 -- The name of an option fixes which it is, and its value's text fixes the value.
-use Rattle.std.proofs.Common.{◌≡◌, ℕ, ◌<◌, ◌≤◌, ◌^◌, Bool, true, false, not, List, get_or, codes, decimal, refl, sym, ap, ◌∙◌, arith}
-use Rattle.std.specs.Prelude.{◌==◌, ◌&&◌}
+use Rattle.std.proofs.Common.{◌≡◌, ℕ, ◌<◌, ◌≤◌, ◌^◌, Bool, true, false, not, List, get_or, codes, decimal, refl, sym, ap, ◌∙◌, arith, inl, inr}
+use Rattle.std.specs.Prelude.{◌==◌, ◌&&◌, ◌⊎◌}
 use Rattle.std.specs.List.{list_all}
 use Rattle.std.proofs.lemmas.Fmt.{decimal_injective}
 use Rattle.mt_model.specs.TableName.{is_table_name}
 use Rattle.mt_words.specs.declared.command.StoreChoice.{StoreChoice}
-use Rattle.mt_words.specs.declared.command.StoreChoice.TheVariants.{Plain}
-use Rattle.mt_words.specs.Words.{Setting, Table, History, Keeper, Number, Events, option_name}
+use Rattle.mt_words.specs.declared.command.StoreChoice.TheVariants.{Plain, Paged}
+use Rattle.mt_words.specs.Words.{Setting, Table, History, Keeper, Number, Events, option_name, keeper_word}
 use Rattle.mt_words.specs.Readings.{IsNamed}
 
 -- ---- names differ in their third character
@@ -67,10 +67,11 @@ history_only value (Keeper choice) n = let d : 104 ≡ 107 = third_named (codes 
 history_only value (Number number) n = let d : 104 ≡ 110 = third_named (codes "--history") value (Number number) n in absurd (omega (arith, d))
 history_only value (Events events) n = let d : 104 ≡ 101 = third_named (codes "--history") value (Events events) n in absurd (omega (arith, d))
 
-pub keeper_only : (value : List ℕ) (s : Setting) → IsNamed (codes "--keeper") value s → value ≡ codes "plain"
+pub keeper_only : (value : List ℕ) (s : Setting) → IsNamed (codes "--keeper") value s → (value ≡ codes "plain") ⊎ (value ≡ codes "paged")
 keeper_only value (Table name) n = let d : 107 ≡ 116 = third_named (codes "--keeper") value (Table name) n in absurd (omega (arith, d))
 keeper_only value (History entries) n = let d : 107 ≡ 104 = third_named (codes "--keeper") value (History entries) n in absurd (omega (arith, d))
-keeper_only value (Keeper Plain) n = n.valued
+keeper_only value (Keeper Plain) n = inl n.valued
+keeper_only value (Keeper Paged) n = inr n.valued
 keeper_only value (Number number) n = let d : 107 ≡ 110 = third_named (codes "--keeper") value (Number number) n in absurd (omega (arith, d))
 keeper_only value (Events events) n = let d : 107 ≡ 101 = third_named (codes "--keeper") value (Events events) n in absurd (omega (arith, d))
 
@@ -93,8 +94,14 @@ events_only value (Events events) n = (events, n.valued, n.taken.0, n.taken.1)
 same_number : (value : List ℕ) (m n : ℕ) → m < 2 ^ 64 → n < 2 ^ 64 → value ≡ decimal m → value ≡ decimal n → m ≡ n
 same_number value m n a b e f = decimal_injective m n a b (sym e ∙ f)
 
-same_choice : (a b : StoreChoice) → a ≡ b
-same_choice Plain Plain = refl
+abbrev second : List ℕ → ℕ
+second word = get_or word 1 0
+
+same_choice : (value : List ℕ) (a b : StoreChoice) → value ≡ keeper_word a → value ≡ keeper_word b → a ≡ b
+same_choice value Plain Plain e f = refl
+same_choice value Plain Paged e f = let d : 108 ≡ 97 = sym (ap second e) ∙ ap second f in absurd (omega (arith, d))
+same_choice value Paged Plain e f = let d : 97 ≡ 108 = sym (ap second e) ∙ ap second f in absurd (omega (arith, d))
+same_choice value Paged Paged e f = refl
 
 same_third : (name value : List ℕ) (s t : Setting) → IsNamed name value s → IsNamed name value t → third_of s ≡ third_of t
 same_third name value s t m n = sym (third_named name value s m) ∙ third_named name value t n
@@ -112,7 +119,7 @@ one_setting name value (History a) (Number b) m n = let d : 104 ≡ 110 = same_t
 one_setting name value (History a) (Events b) m n = let d : 104 ≡ 101 = same_third name value (History a) (Events b) m n in absurd (omega (arith, d))
 one_setting name value (Keeper a) (Table b) m n = let d : 107 ≡ 116 = same_third name value (Keeper a) (Table b) m n in absurd (omega (arith, d))
 one_setting name value (Keeper a) (History b) m n = let d : 107 ≡ 104 = same_third name value (Keeper a) (History b) m n in absurd (omega (arith, d))
-one_setting name value (Keeper a) (Keeper b) m n = ap Keeper (same_choice a b)
+one_setting name value (Keeper a) (Keeper b) m n = ap Keeper (same_choice value a b m.valued n.valued)
 one_setting name value (Keeper a) (Number b) m n = let d : 107 ≡ 110 = same_third name value (Keeper a) (Number b) m n in absurd (omega (arith, d))
 one_setting name value (Keeper a) (Events b) m n = let d : 107 ≡ 101 = same_third name value (Keeper a) (Events b) m n in absurd (omega (arith, d))
 one_setting name value (Number a) (Table b) m n = let d : 110 ≡ 116 = same_third name value (Number a) (Table b) m n in absurd (omega (arith, d))

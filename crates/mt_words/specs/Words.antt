@@ -4,7 +4,7 @@ use Rattle.std.specs.List.{filter_map}
 use Rattle.std.specs.Option.{option_to_list, unwrap_or}
 use Rattle.mt_model.specs.TableName.{is_table_name}
 use Rattle.mt_words.specs.declared.command.StoreChoice.{StoreChoice}
-use Rattle.mt_words.specs.declared.command.StoreChoice.TheVariants.{Plain}
+use Rattle.mt_words.specs.declared.command.StoreChoice.TheVariants.{Plain, Paged}
 use Rattle.mt_words.specs.declared.command.Common.{Common}
 use Rattle.mt_words.specs.declared.command.Command.{Command}
 use Rattle.mt_words.specs.declared.command.Command.TheVariants as command
@@ -28,6 +28,7 @@ option_name (Events events) = codes "--events"
 
 abbrev pub keeper_word : StoreChoice → List ℕ
 keeper_word Plain = codes "plain"
+keeper_word Paged = codes "paged"
 
 -- the value as it is spelled: a number in decimal digits without leading zeros
 abbrev pub value_text : Setting → List ℕ
@@ -115,9 +116,9 @@ pub record HasOptions (words : List (List ℕ)) (g : Given) : Type 0 where
   pub spelled : Spells settings words
   pub gives : Gives settings g
 
--- what is common to commands: the table `Orders`, 1,048,576 entries and stores in memory, where nothing else is given
+-- what is common to commands: the table `Orders`, 1,048,576 entries and stores in pages, where nothing else is given
 abbrev pub common_of : Given → Common
-common_of g = record { table = unwrap_or g.table (codes "Orders"); history = unwrap_or g.history 1048576; stores = unwrap_or g.keeper Plain }
+common_of g = record { table = unwrap_or g.table (codes "Orders"); history = unwrap_or g.history 1048576; stores = unwrap_or g.keeper Paged }
 
 -- the options of a session, which has neither a number nor events
 pub record IsSession (words : List (List ℕ)) (common : Common) : Type 0 where

@@ -2,11 +2,13 @@
 use mt_model::{NoMemory, Text};
 use thiserror::Error;
 
-/// Where rows are kept.
+/// Where rows are kept: in two stores in memory.
 #[derive(Clone, Copy, Debug, PartialEq, Eq)]
 pub enum StoreChoice {
-    /// Two stores in memory.
+    /// Each store has its rows in one list.
     Plain,
+    /// Each store has its rows in pages.
+    Paged,
 }
 
 /// What is common to the commands that serve a table.

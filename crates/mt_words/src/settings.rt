@@ -75,10 +75,10 @@ fn history_setting<'a>(value: &'a str) -> Option<Setting<'a>>
 fn keeper_setting<'a>(value: &'a str) -> Option<Setting<'a>>
     ensures { MatchOption result (IsNotNamed (codes "--keeper") value.now) (λ s. IsNamed (codes "--keeper") value.now (setting_of s)) }
 {
-    if value == "plain" {
-        Some(Setting::Keeper(StoreChoice::Plain))
-    } else {
-        None
+    match value {
+        "plain" => Some(Setting::Keeper(StoreChoice::Plain)),
+        "paged" => Some(Setting::Keeper(StoreChoice::Paged)),
+        _ => None,
     }
 }
 

@@ -17,7 +17,7 @@ enum Read<'a> {
 #[derive(Clone, Copy, Debug, PartialEq, Eq)]
 struct Shared<'a>(&'a str, u64, StoreChoice);
 
-const DEFAULTS: Shared<'static> = Shared("Orders", 1_048_576, StoreChoice::Plain);
+const DEFAULTS: Shared<'static> = Shared("Orders", 1_048_576, StoreChoice::Paged);
 
 fn values_of(common: &Common) -> Shared<'_> {
     Shared(common.table.as_str(), common.history, common.stores)
@@ -53,20 +53,27 @@ fn words(alloc: Global, line: &str) -> Result<Vec<String>, Fail> {
 #[test]
 fn reads_commands_with_their_options(rt: HostRuntime) -> Result<(), Fail> {
     let alloc = rt.alloc();
-    let five = Shared("Orders", 5, StoreChoice::Plain);
+    let five = Shared("Orders", 5, StoreChoice::Paged);
+    let plain = Shared("Orders", 1_048_576, StoreChoice::Plain);
     for (line, want) in [
         ("session", Read::Session(DEFAULTS)),
         ("session --history=5", Read::Session(five)),
         ("session --history 5", Read::Session(five)),
         ("session --history 1048576", Read::Session(DEFAULTS)),
-        ("session --keeper plain", Read::Session(DEFAULTS)),
+        ("session --keeper plain", Read::Session(plain)),
+        ("session --keeper=plain", Read::Session(plain)),
+        ("session --keeper paged", Read::Session(DEFAULTS)),
         (
-            "session --keeper=plain --history 5 --table=Orders",
+            "session --keeper=paged --history 5 --table=Orders",
             Read::Session(five),
         ),
         (
             "session --table Items",
-            Read::Session(Shared("Items", 1_048_576, StoreChoice::Plain)),
+            Read::Session(Shared("Items", 1_048_576, StoreChoice::Paged)),
+        ),
+        (
+            "drill --number 0 --keeper plain",
+            Read::Drill(0, 1_000, plain),
         ),
         ("drill --number 0", Read::Drill(0, 1_000, DEFAULTS)),
         (
@@ -100,8 +107,11 @@ fn refuses_what_is_no_command(rt: HostRuntime) -> Result<(), Fail> {
         "session --history 1048577",
         "session --history=5 --history=5",
         "session --history --keeper",
-        "session --keeper paged",
+        "session --keeper",
+        "session --keeper list",
+        "session --keeper Paged",
         "session --keeper paged --keeper paged",
+        "session --keeper=plain --keeper=paged",
         "session --old f",
         "session --multi=1",
         "session --table ab",
@@ -152,10 +162,11 @@ fn parser<'a>(alloc: Global) -> Result<Parser<'a>, Fail> {
 }
 
 /// Lines that both readers take.
-const LINES: [[&str; 3]; 5] = [
+const LINES: [[&str; 3]; 6] = [
     ["session", "--history=5", "--table=Items"],
     ["session", "--history", "5"],
     ["session", "--keeper", "plain"],
+    ["session", "--keeper", "paged"],
     ["session", "--table", "Items"],
     ["session", "--keeper=plain", "--history=70"],
 ];
@@ -186,12 +197,12 @@ fn reads_the_values_that_clap_reads(rt: HostRuntime) -> Result<(), Fail> {
         let words = owned(alloc, line)?;
         let result = read_words(alloc, &words);
         let history = text_of(options, "history", "1048576").parse::<u64>()?;
-        assert!(rt; text_of(options, "keeper", "plain") == "plain");
-        let want = Shared(
-            text_of(options, "table", "Orders"),
-            history,
-            StoreChoice::Plain,
-        );
+        let keeper = if text_of(options, "keeper", "paged") == "paged" {
+            StoreChoice::Paged
+        } else {
+            StoreChoice::Plain
+        };
+        let want = Shared(text_of(options, "table", "Orders"), history, keeper);
         assert!(rt; seen(&result) == Read::Session(want));
     }
     Ok(())

@@ -21,7 +21,7 @@ fn common_of(alloc: Global, settings: Settings<'_>) -> Result<Common, NoMemory>
     Ok(Common {
         table: Text::of(alloc, settings.table.unwrap_or(DEFAULT_TABLE))?,
         history: settings.history.unwrap_or(MAX_HISTORY),
-        stores: settings.keeper.unwrap_or(StoreChoice::Plain),
+        stores: settings.keeper.unwrap_or(StoreChoice::Paged),
     })
 }
 
@@ -75,7 +75,8 @@ fn read_help(words: &[String]) -> Result<Command, Usage>
 /// - `--table NAME`: 3 to 63 ASCII letters and digits, a letter first, and not `Tables` in any case.
 ///   `Orders` where it is not given.
 /// - `--history N`: 1 to 1,048,576 entries, which is also what is taken where it is not given.
-/// - `--keeper plain`: stores in memory, also where it is not given.
+/// - `--keeper plain`: stores in memory, with the rows of each in one list; or `--keeper paged`: with
+///   the rows in pages, also where it is not given.
 /// - `--number N`: 0 to 2^64 - 1. A drill has one, a session has none.
 /// - `--events N`: 1 to 100,000, of a drill; 1,000 where it is not given.
 ///

@@ -2,15 +2,15 @@
 #![tactic(auto)]
 
 use mt_io::{ReadSource, WriteSink};
-use mt_mem::{MemDepot, MemKeeper};
 use mt_model::NoMemory;
+use mt_top::AnyDepot;
 use mt_words::{Command, StoreChoice, Usage, read_words};
 use std::alloc::Global;
 use std::env;
 use std::io::{self, ErrorKind};
 use std::process::ExitCode;
 
-/// The exit status where the words could not be read for want of memory.
+/// The exit status where the words could not be read, or the stores not be made, for want of memory.
 const NO_MEMORY: u8 = 9;
 
 /// The words after the program's name. Words that are not UTF-8 are no words of a command: none are
@@ -32,24 +32,14 @@ fn words(rt: &HostRuntime) -> io::Result<Vec<String>> {
     Ok(words)
 }
 
-/// Where the command of these words keeps its rows. Words that are no command name the stores in
-/// memory, which are not used then.
+/// Where the command of these words keeps its rows. Words that are no command name plain stores, which
+/// take no memory and are not used then.
 fn stores_of(alloc: Global, words: &[String]) -> Result<StoreChoice, NoMemory> {
     match read_words(alloc, words) {
         Ok(Command::Session { common }) => Ok(common.stores),
         Ok(Command::Drill { common, .. }) => Ok(common.stores),
         Ok(Command::Help) | Err(Usage::Bad) => Ok(StoreChoice::Plain),
         Err(Usage::NoMemory) => Err(NoMemory),
-    }
-}
-
-/// Two stores without rows, which do not fail.
-fn depot_of(alloc: Global, stores: StoreChoice) -> MemDepot {
-    match stores {
-        StoreChoice::Plain => MemDepot::new(
-            MemKeeper::new(alloc, 0, Vec::new(alloc)),
-            MemKeeper::new(alloc, 1, Vec::new(alloc)),
-        ),
     }
 }
 
@@ -62,7 +52,9 @@ fn main(rt: HostRuntime) -> ExitCode {
     };
     let mut source = ReadSource::new(rt.stdin(), 0);
     let mut sink = WriteSink::new(rt.stdout(), 0);
-    let mut depot = depot_of(rt.alloc(), stores);
+    let Ok(mut depot) = AnyDepot::empty(rt.alloc(), stores) else {
+        return ExitCode::from(NO_MEMORY);
+    };
     let status = mt_top::run(rt.alloc(), &words, &mut source, &mut sink, &mut depot);
     ExitCode::from(status.code)
 }
