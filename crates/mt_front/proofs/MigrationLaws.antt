@@ -225,7 +225,7 @@ sealed_so c w w' r outcome s is e = by s.0 s.1.sealed (as_told r (told_of_seal s
 asked_sealed : (c : ℕ) (w w' : WorldState) (ms ms' : Machines) (asks : Asked) (outcome : ItemOutcome) → IsHeld w ms → AskedDoes c w ms asks outcome w' ms' → ((is_of_seal asks && says_sealed outcome) || (is_of_migrator asks && says_done outcome)) ≡ true → ForPair w' (λ p. p.old.sealed ≡ true)
 asked_sealed c w w' ms ms' (asked.Admin (Steps Migrator steps)) outcome held did e = swept_sealed w' (asked_swept c w w' ms ms' (asked.Admin (Steps Migrator steps)) outcome held did e)
 asked_sealed c w w' ms ms' (asked.Admin (Steps Cleaner steps)) outcome held did e = absurd cc
-asked_sealed c w w' ms ms' (asked.Admin Seal) outcome held did e = sealed_so c w w' did.0 outcome did.1.0 did.2 (sym (false_last (says_sealed outcome)) ∙ e)
+asked_sealed c w w' ms ms' (asked.Admin Seal) outcome held did e = sealed_so c w w' did.0 outcome did.1.0 did.2 (false_last (says_sealed outcome) ∙ e)
 asked_sealed c w w' ms ms' (asked.Admin Status) outcome held did e = absurd cc
 asked_sealed c w w' ms ms' (asked.Write v) outcome held did e = absurd cc
 asked_sealed c w w' ms ms' (asked.Read q) outcome held did e = absurd cc
@@ -305,9 +305,9 @@ module _ (c : ℕ) (at w' : WorldState) (b left : Actor) (entry : Option NewEntr
       let old = some_is w'.old_store.told tells.old in
       let new = some_is w'.new_store.told tells.new in
       let k = before at w' m.0.side m.0.ask m.1 old.0 new.0 old.1 new.1 m.3.on in
-      let open = not_sealed_was_seen kind.0 moves.to m.0 m.1 (pair_of at k.a k.b) (pair_of at old.0 new.0) m.2 k.means (subst (λ s. Absorbs kind.0 m.1 (Ok s) moves.to) said moves.absorbs) in
+      let unsealed = not_sealed_was_seen kind.0 moves.to m.0 m.1 (pair_of at k.a k.b) (pair_of at old.0 new.0) m.2 k.means (subst (λ s. Absorbs kind.0 m.1 (Ok s) moves.to) said moves.absorbs) in
       let shut : k.a.sealed ≡ true = at_pair at (λ p. p.old.sealed ≡ true) k.a k.b k.old k.new sealed in
-      let x : true ≡ false = sym shut ∙ open in cc
+      let x : true ≡ false = sym shut ∙ unsealed in cc
 
   -- where all is swept no cleaner says that a partition is not migrated
   not_migrated_turn : (pk : List ℕ) → Knows at b → turns.Turns at c b (Ok (Done (answer.NotMigrated pk))) entry w' left → ForPair at (λ p. IsTrueOf at p swept) → ⊥
@@ -402,13 +402,13 @@ module _ (c : ℕ) (w v w' : WorldState) (ms : Machines) (items : List Item) (di
     sealed = λ e. sealed_on v w' behind (items_sealed c w v all_begun ms items (begun_held w) did e);
     cleaned = λ e. behind.retired (items_retired c w v all_begun ms items (begun_held w) did ∙ ap (λ b. w.retired || b) e ∙ sym (true_last w.retired));
     not_sealed = λ tells before i steps stands asks outcome sealed. (
-      let k = apart before i stands in
-      asked_not_sealed c k.at k.next k.held k.left i steps asks outcome (k.rest.tells (behind.tells tells)) (items_held c w k.at all_begun k.held before (begun_held w) k.first) k.one (was_sealed before i k sealed));
+        let k = apart before i stands in
+        asked_not_sealed c k.at k.next k.held k.left i steps asks outcome (k.rest.tells (behind.tells tells)) (items_held c w k.at all_begun k.held before (begun_held w) k.first) k.one (was_sealed before i k sealed));
     not_migrated = λ tells before i steps pk stands asks outcome moved. (
-      let k = apart before i stands in
-      asked_not_migrated c k.at k.next k.held k.left i steps pk asks outcome (k.rest.tells (behind.tells tells)) (items_held c w k.at all_begun k.held before (begun_held w) k.first) k.one
-      (items_swept c w k.at all_begun k.held before (begun_held w) k.first moved));
+        let k = apart before i stands in
+        asked_not_migrated c k.at k.next k.held k.left i steps pk asks outcome (k.rest.tells (behind.tells tells)) (items_held c w k.at all_begun k.held before (begun_held w) k.first) k.one
+        (items_swept c w k.at all_begun k.held before (begun_held w) k.first moved));
     statuses = λ before i entries generation retired stands asks outcome. (
-      let k = apart before i stands in
-      asked_status c k.at k.next k.held k.left i entries generation retired asks outcome k.one ∙ items_retired c w k.at all_begun k.held before (begun_held w) k.first);
+        let k = apart before i stands in
+        asked_status c k.at k.next k.held k.left i entries generation retired asks outcome k.one ∙ items_retired c w k.at all_begun k.held before (begun_held w) k.first);
   }

@@ -116,7 +116,13 @@ pub fn report_reply(alloc: Global, report: Report, close: bool) -> Result<Reply,
     match report {
         Report::Stepped { done, steps } => stepped_reply(alloc, done, steps, close),
         Report::NotSealed => {
-            error_reply(alloc, 409, "NotSealed", "The old store is not sealed.", close)
+            error_reply(
+                alloc,
+                409,
+                "NotSealed",
+                "The old store is not sealed.",
+                close,
+            )
         }
         Report::NotMigrated { pk } => unmigrated_reply(alloc, pk.as_str(), close),
         Report::Sealed => sealed_reply(alloc, close),

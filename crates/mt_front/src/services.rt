@@ -36,13 +36,18 @@ pub enum Admin {
 #[derive(Drop)]
 pub enum Report {
     /// So many turns were taken, and the machine is done or goes on.
-    Stepped { done: bool, steps: u32 },
+    Stepped {
+        done: bool,
+        steps: u32,
+    },
 
     /// The cleaner has seen that the old store is not sealed.
     NotSealed,
 
     /// The cleaner has seen that the new store does not use this partition of the old one alone.
-    NotMigrated { pk: Text },
+    NotMigrated {
+        pk: Text,
+    },
 
     /// The old store is sealed.
     Sealed,

@@ -8,7 +8,7 @@ returns-in_default g c = never_began 0 c.args.table.now (g.S.Source.input c.args
 
 pub requests-init : goal.requests-init
 requests-init g c =
-    subst (λ ms. On 0 c.args.table.now (g.S.Source.input c.args.source.now) (g.T.Sink.output c.args.sink.now) c.args.world.now 0 c.in-Ok.reader (g.S.Source.input c.args.source.now) (g.T.Sink.output c.args.sink.now) c.args.world.now ms) (sym c.new.ensures)
+    subst (λ ms. On 0 c.args.table.now (g.S.Source.input c.args.source.now) (g.T.Sink.output c.args.sink.now) c.args.world.now 0 c.in-Ok.reader (g.S.Source.input c.args.source.now) (g.T.Sink.output c.args.sink.now) c.args.world.now ms) (sym c.new-machines.ensures)
     (on_start 0 c.args.table.now c.in-Ok.reader (g.S.Source.input c.args.source.now) (g.T.Sink.output c.args.sink.now) c.args.world.now c.in-Ok.ensures)
 
 pub requests-preserved : goal.requests-preserved
